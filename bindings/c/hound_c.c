@@ -1,6 +1,6 @@
 /* The functions of hound.h in C99 (and C++11), for computers that bindings/lib has no library for.
    scripts/portable/convert.py makes this file from the proved module hound_c.wasm, whose sha256 is
-   12244a35221fb2be0b8d79c28aa8d578c187e903482aa3053f1cd4a7e04efd3c: don't edit it.
+   7448686fca7872955e53ba2bb589dc96990bea839bfcdce65808aaeef4c97591: don't edit it.
      cc -O3 -c bindings/c/hound_c.c
 
    Numbers are the module's: an i32 is a uint32_t, an i64 or an address a uint64_t, and an address is
@@ -371,65 +371,64 @@ static void f20_find_damage_in_bytes(uint64_t sp, uint64_t l0, uint64_t l1, uint
 static void f21_take_asked(uint64_t sp, uint64_t l0, uint64_t l1, uint32_t l2, uint64_t l3, uint64_t l4, uint64_t l5);
 static void f22_measured(uint64_t sp, uint64_t l0, uint64_t l1, uint64_t l2);
 static void f23_settle(uint64_t sp, uint64_t l0, uint64_t l1, uint32_t l2);
-static void f24_effect(uint64_t l0, uint64_t l1, uint32_t l2);
-static void f25_next_effect(uint64_t sp, uint64_t l0, uint64_t l1, uint32_t l2);
-static void f26_repair_file(uint64_t sp, uint64_t l0, uint64_t l1, uint64_t l2, uint64_t l3, uint32_t l4, uint64_t l5);
-static void f27_repairer_for_c(uint64_t sp, uint64_t l0, uint64_t l1, uint64_t l2, uint64_t l3);
-static uint64_t f29_hound_append_f32(uint64_t sp, uint64_t l0, uint64_t l1, uint64_t l2, uint64_t l3, uint64_t l4);
-static uint64_t f31_hound_append_i16(uint64_t sp, uint64_t l0, uint64_t l1, uint64_t l2, uint64_t l3, uint64_t l4);
-static uint64_t f33_hound_append_i32(uint64_t sp, uint64_t l0, uint64_t l1, uint64_t l2, uint64_t l3, uint64_t l4);
-static uint32_t f35_hound_beginning(uint64_t sp, uint64_t l0, uint32_t l1, uint64_t l2);
-static uint64_t f37_hound_container_16(uint32_t l0);
-static uint64_t f39_hound_container_24(uint32_t l0);
-static uint64_t f41_hound_container_32(uint32_t l0);
-static uint64_t f43_hound_container_8(uint32_t l0);
-static uint64_t f45_hound_decode_f32(uint64_t sp, uint64_t l0, uint64_t l1, uint64_t l2, uint64_t l3, uint64_t l4);
-static uint64_t f47_hound_decode_i16(uint64_t sp, uint64_t l0, uint64_t l1, uint64_t l2, uint64_t l3, uint64_t l4);
-static uint64_t f49_hound_decode_i32(uint64_t sp, uint64_t l0, uint64_t l1, uint64_t l2, uint64_t l3, uint64_t l4);
-static uint64_t f51_hound_decode_i8(uint64_t l0, uint64_t l1, uint64_t l2, uint64_t l3, uint64_t l4);
-static uint64_t f53_hound_dither_f32(uint64_t sp, uint64_t l0, uint64_t l1, uint64_t l2, uint64_t l3, uint64_t l4, uint64_t l5, uint64_t l6);
-static uint64_t f55_hound_dither_f64(uint64_t sp, uint64_t l0, uint64_t l1, uint64_t l2, uint64_t l3, uint64_t l4, uint64_t l5, uint64_t l6);
-static uint64_t f57_hound_encode_f32(uint64_t l0, uint64_t l1, uint64_t l2, uint64_t l3, uint64_t l4);
-static uint64_t f59_hound_encode_i16(uint64_t sp, uint64_t l0, uint64_t l1, uint64_t l2, uint64_t l3, uint64_t l4);
-static uint64_t f61_hound_encode_i32(uint64_t sp, uint64_t l0, uint64_t l1, uint64_t l2, uint64_t l3, uint64_t l4);
-static uint64_t f63_hound_encode_i8(uint64_t sp, uint64_t l0, uint64_t l1, uint64_t l2, uint64_t l3, uint64_t l4);
-static uint64_t f65_hound_f32_to_f64(uint64_t l0, uint64_t l1, uint64_t l2, uint64_t l3);
-static uint64_t f67_hound_f64_to_f32(uint64_t l0, uint64_t l1, uint64_t l2, uint64_t l3, uint64_t l4);
-static uint32_t f69_hound_find_damage(uint64_t sp, uint64_t l0, uint64_t l1, uint64_t l2);
-static uint64_t f71_hound_from_f32(uint64_t sp, uint64_t l0, uint64_t l1, uint64_t l2, uint64_t l3, uint64_t l4, uint64_t l5);
-static uint64_t f73_hound_from_f64(uint64_t sp, uint64_t l0, uint64_t l1, uint64_t l2, uint64_t l3, uint64_t l4, uint64_t l5);
-static uint64_t f75_hound_guess_data(uint64_t l0, uint64_t l1);
-static uint64_t f77_hound_header(uint64_t sp, uint64_t l0, uint64_t l1, uint64_t l2, uint64_t l3);
-static uint32_t f79_hound_info(uint64_t sp, uint64_t l0, uint64_t l1, uint64_t l2);
-static uint32_t f81_hound_kind(uint64_t l0, uint64_t l1);
-static uint64_t f83_hound_read_f32(uint64_t sp, uint64_t l0, uint64_t l1, uint64_t l2, uint64_t l3, uint64_t l4);
-static uint64_t f85_hound_read_i16(uint64_t sp, uint64_t l0, uint64_t l1, uint64_t l2, uint64_t l3, uint64_t l4);
-static uint64_t f87_hound_read_i32(uint64_t sp, uint64_t l0, uint64_t l1, uint64_t l2, uint64_t l3, uint64_t l4);
-static uint32_t f89_hound_recorder_begin(uint64_t l0, uint64_t l1);
-static void f91_hound_recorder_checkpoint(uint64_t sp, uint64_t l0);
-static uint64_t f93_hound_recorder_frames_left(uint64_t l0);
-static uint32_t f95_hound_recorder_next(uint64_t sp, uint64_t l0);
-static uint32_t f97_hound_recorder_resume(uint64_t l0, uint32_t l1, uint64_t l2);
-static uint32_t f99_hound_recorder_write(uint64_t sp, uint64_t l0, uint64_t l1);
-static uint64_t f101_hound_repair(uint64_t sp, uint64_t l0, uint64_t l1, uint64_t l2, uint64_t l3);
-static uint64_t f103_hound_repair_to_end(uint64_t sp, uint64_t l0, uint64_t l1, uint64_t l2, uint64_t l3);
-static void f105_hound_repairer_begin(uint64_t l0, uint32_t l1, uint64_t l2);
-static uint32_t f107_hound_repairer_next(uint64_t sp, uint64_t l0, uint64_t l1);
-static uint64_t f109_hound_size(uint64_t l0, uint64_t l1);
-static uint64_t f111_hound_sizes(uint64_t l0, uint64_t l1, uint64_t l2, uint64_t l3, uint64_t l4);
-static uint64_t f113_hound_to_f32(uint64_t sp, uint64_t l0, uint64_t l1, uint64_t l2, uint64_t l3, uint64_t l4);
-static uint64_t f115_hound_to_f64(uint64_t l0, uint64_t l1, uint64_t l2, uint64_t l3, uint64_t l4);
-static uint32_t f117_hound_value_16(uint32_t l0);
-static uint32_t f119_hound_value_24(uint32_t l0);
-static uint32_t f123_hound_value_8(uint32_t l0);
-static uint32_t f127_hound_walk_next(uint64_t sp, uint64_t l0, uint64_t l1);
-static uint32_t f129_hound_walk_to_end(uint64_t sp, uint64_t l0, uint64_t l1);
-static uint64_t f131_hound_whole_frames(uint64_t l0, uint64_t l1);
-static uint64_t f133_hound_write_f32(uint64_t sp, uint64_t l0, uint64_t l1, uint64_t l2, uint64_t l3, uint64_t l4);
-static uint64_t f135_hound_write_i16(uint64_t sp, uint64_t l0, uint64_t l1, uint64_t l2, uint64_t l3, uint64_t l4);
-static uint64_t f137_hound_write_i32(uint64_t sp, uint64_t l0, uint64_t l1, uint64_t l2, uint64_t l3, uint64_t l4);
+static void f24_next_effect(uint64_t l0, uint64_t l1, uint32_t l2);
+static void f25_repair_file(uint64_t sp, uint64_t l0, uint64_t l1, uint64_t l2, uint64_t l3, uint32_t l4, uint64_t l5);
+static void f26_repairer_for_c(uint64_t sp, uint64_t l0, uint64_t l1, uint64_t l2, uint64_t l3);
+static uint64_t f28_hound_append_f32(uint64_t sp, uint64_t l0, uint64_t l1, uint64_t l2, uint64_t l3, uint64_t l4);
+static uint64_t f30_hound_append_i16(uint64_t sp, uint64_t l0, uint64_t l1, uint64_t l2, uint64_t l3, uint64_t l4);
+static uint64_t f32_hound_append_i32(uint64_t sp, uint64_t l0, uint64_t l1, uint64_t l2, uint64_t l3, uint64_t l4);
+static uint32_t f34_hound_beginning(uint64_t sp, uint64_t l0, uint32_t l1, uint64_t l2);
+static uint64_t f36_hound_container_16(uint32_t l0);
+static uint64_t f38_hound_container_24(uint32_t l0);
+static uint64_t f40_hound_container_32(uint32_t l0);
+static uint64_t f42_hound_container_8(uint32_t l0);
+static uint64_t f44_hound_decode_f32(uint64_t sp, uint64_t l0, uint64_t l1, uint64_t l2, uint64_t l3, uint64_t l4);
+static uint64_t f46_hound_decode_i16(uint64_t sp, uint64_t l0, uint64_t l1, uint64_t l2, uint64_t l3, uint64_t l4);
+static uint64_t f48_hound_decode_i32(uint64_t sp, uint64_t l0, uint64_t l1, uint64_t l2, uint64_t l3, uint64_t l4);
+static uint64_t f50_hound_decode_i8(uint64_t l0, uint64_t l1, uint64_t l2, uint64_t l3, uint64_t l4);
+static uint64_t f52_hound_dither_f32(uint64_t sp, uint64_t l0, uint64_t l1, uint64_t l2, uint64_t l3, uint64_t l4, uint64_t l5, uint64_t l6);
+static uint64_t f54_hound_dither_f64(uint64_t sp, uint64_t l0, uint64_t l1, uint64_t l2, uint64_t l3, uint64_t l4, uint64_t l5, uint64_t l6);
+static uint64_t f56_hound_encode_f32(uint64_t l0, uint64_t l1, uint64_t l2, uint64_t l3, uint64_t l4);
+static uint64_t f58_hound_encode_i16(uint64_t sp, uint64_t l0, uint64_t l1, uint64_t l2, uint64_t l3, uint64_t l4);
+static uint64_t f60_hound_encode_i32(uint64_t sp, uint64_t l0, uint64_t l1, uint64_t l2, uint64_t l3, uint64_t l4);
+static uint64_t f62_hound_encode_i8(uint64_t sp, uint64_t l0, uint64_t l1, uint64_t l2, uint64_t l3, uint64_t l4);
+static uint64_t f64_hound_f32_to_f64(uint64_t l0, uint64_t l1, uint64_t l2, uint64_t l3);
+static uint64_t f66_hound_f64_to_f32(uint64_t l0, uint64_t l1, uint64_t l2, uint64_t l3, uint64_t l4);
+static uint32_t f68_hound_find_damage(uint64_t sp, uint64_t l0, uint64_t l1, uint64_t l2);
+static uint64_t f70_hound_from_f32(uint64_t sp, uint64_t l0, uint64_t l1, uint64_t l2, uint64_t l3, uint64_t l4, uint64_t l5);
+static uint64_t f72_hound_from_f64(uint64_t sp, uint64_t l0, uint64_t l1, uint64_t l2, uint64_t l3, uint64_t l4, uint64_t l5);
+static uint64_t f74_hound_guess_data(uint64_t l0, uint64_t l1);
+static uint64_t f76_hound_header(uint64_t sp, uint64_t l0, uint64_t l1, uint64_t l2, uint64_t l3);
+static uint32_t f78_hound_info(uint64_t sp, uint64_t l0, uint64_t l1, uint64_t l2);
+static uint32_t f80_hound_kind(uint64_t l0, uint64_t l1);
+static uint64_t f82_hound_read_f32(uint64_t sp, uint64_t l0, uint64_t l1, uint64_t l2, uint64_t l3, uint64_t l4);
+static uint64_t f84_hound_read_i16(uint64_t sp, uint64_t l0, uint64_t l1, uint64_t l2, uint64_t l3, uint64_t l4);
+static uint64_t f86_hound_read_i32(uint64_t sp, uint64_t l0, uint64_t l1, uint64_t l2, uint64_t l3, uint64_t l4);
+static uint32_t f88_hound_recorder_begin(uint64_t l0, uint64_t l1);
+static void f90_hound_recorder_checkpoint(uint64_t sp, uint64_t l0);
+static uint64_t f92_hound_recorder_frames_left(uint64_t l0);
+static uint32_t f94_hound_recorder_next(uint64_t sp, uint64_t l0);
+static uint32_t f96_hound_recorder_resume(uint64_t l0, uint32_t l1, uint64_t l2);
+static uint32_t f98_hound_recorder_write(uint64_t sp, uint64_t l0, uint64_t l1);
+static uint64_t f100_hound_repair(uint64_t sp, uint64_t l0, uint64_t l1, uint64_t l2, uint64_t l3);
+static uint64_t f102_hound_repair_to_end(uint64_t sp, uint64_t l0, uint64_t l1, uint64_t l2, uint64_t l3);
+static void f104_hound_repairer_begin(uint64_t l0, uint32_t l1, uint64_t l2);
+static uint32_t f106_hound_repairer_next(uint64_t sp, uint64_t l0, uint64_t l1);
+static uint64_t f108_hound_size(uint64_t l0, uint64_t l1);
+static uint64_t f110_hound_sizes(uint64_t l0, uint64_t l1, uint64_t l2, uint64_t l3, uint64_t l4);
+static uint64_t f112_hound_to_f32(uint64_t sp, uint64_t l0, uint64_t l1, uint64_t l2, uint64_t l3, uint64_t l4);
+static uint64_t f114_hound_to_f64(uint64_t l0, uint64_t l1, uint64_t l2, uint64_t l3, uint64_t l4);
+static uint32_t f116_hound_value_16(uint32_t l0);
+static uint32_t f118_hound_value_24(uint32_t l0);
+static uint32_t f122_hound_value_8(uint32_t l0);
+static uint32_t f126_hound_walk_next(uint64_t sp, uint64_t l0, uint64_t l1);
+static uint32_t f128_hound_walk_to_end(uint64_t sp, uint64_t l0, uint64_t l1);
+static uint64_t f130_hound_whole_frames(uint64_t l0, uint64_t l1);
+static uint64_t f132_hound_write_f32(uint64_t sp, uint64_t l0, uint64_t l1, uint64_t l2, uint64_t l3, uint64_t l4);
+static uint64_t f134_hound_write_i16(uint64_t sp, uint64_t l0, uint64_t l1, uint64_t l2, uint64_t l3, uint64_t l4);
+static uint64_t f136_hound_write_i32(uint64_t sp, uint64_t l0, uint64_t l1, uint64_t l2, uint64_t l3, uint64_t l4);
 
-/* hound_slices::head::find_samples */
+/* hound_walk::parts::find_samples */
 static void f3_find_samples(uint64_t sp, uint64_t l0, uint64_t l1, uint64_t l2) {
     uint32_t l4 = 0, l7 = 0, l8 = 0, l9 = 0, l10 = 0, l11 = 0, l12 = 0, l13 = 0, l14 = 0, l15 = 0, l16 = 0, l19 = 0, t1, t2, t3, t4;
     uint64_t l3 = 0, l5 = 0, l6 = 0, l17 = 0, l18 = 0, l20 = 0;
@@ -752,10 +751,9 @@ L45:;
     if (rem32(l16, l13) == 0) goto L3;
     l4 = 16u;
 L44:;
-    store16(l0, 1u);
+    store16(l0, 257u);
     store64(l0 + 8ull, 0ull);
-    store8(l0 + 3ull, l4);
-    store8(l0 + 2ull, 1u);
+    store8(l0 + 2ull, l4);
     store64(l0 + 16ull, 0ull);
     store64(l0 + 24ull, 0ull);
     store64(l0 + 32ull, 0ull);
@@ -764,8 +762,9 @@ L44:;
 L4:;
     TRAP();
 L3:;
-    store32(l0, 0u);
+    store16(l0, 0u);
     store16(l0 + 8ull, l8);
+    store8(l0 + 2ull, 0u);
     store64(l0 + 10ull, load64(l3 + 8));
     store16(l0 + 18ull, load16(l3 + 16));
     store32(l0 + 44ull, 0u);
@@ -778,10 +777,10 @@ L3:;
     store16(l0 + 20ull, l9);
     goto L1;
 L2:;
-    store16(l0, 1u);
+    store8(l0, 1u);
     store64(l0 + 8ull, 0ull);
-    store8(l0 + 3ull, l15);
-    store8(l0 + 2ull, l14);
+    store8(l0 + 2ull, l15);
+    store8(l0 + 1ull, l14);
     store64(l0 + 16ull, 0ull);
     store64(l0 + 24ull, 0ull);
     store64(l0 + 32ull, 0ull);
@@ -2037,115 +2036,115 @@ L7:;
 L8:;
     l9 = l7 - 8u;
     switch ((uint32_t)(((uint64_t)((l9 << 13) | ((l9 & 65528u) >> 3))) & 65535ull)) {
-    case 0: goto L23;
-    case 1: goto L26;
-    case 2: goto L25;
-    case 3: goto L24;
+    case 0: goto L11;
+    case 1: goto L14;
+    case 2: goto L13;
+    case 3: goto L12;
     default: goto L10;
     }
-L26:;
+L14:;
     if (l8 != 2u) goto L10;
+    if (l3 == 0) goto L3;
+    l4 = l3 & 3ull;
+    if (l3 >= 4ull) goto L17;
+    l10 = 0ull;
+    l9 = 1u;
+    goto L16;
+L17:;
+    l11 = l3 & 0xfffffffffffffffcull;
+    l10 = 0ull;
+    l9 = 1u;
+    l1 = l2;
+L18:;
+    l9 = l9 & (uint32_t)(((load32(l1 + 12ull) + 32768u) | ((load32(l1 + 8ull) + 32768u) | ((load32(l1 + 4ull) + 32768u) | (load32(l1) + 32768u)))) < 0x10000u);
+    l1 = l1 + 16ull;
+    l10 = l10 + 4ull;
+    if (l11 != l10) goto L18;
+    if (l4 == 0) goto L15;
+L16:;
+    l1 = l2 + (l10 << 2);
+L19:;
+    l9 = l9 & (uint32_t)((load32(l1) + 32768u) < 0x10000u);
+    l1 = l1 + 4ull;
+    l4 = l4 - 1ull;
+    if (l4 != 0ull) goto L19;
+L15:;
+    if (l9 == 0) goto L2;
+    goto L3;
+L13:;
+    switch (l8 - 3u) {
+    case 0: goto L23;
+    case 1: goto L24;
+    default: goto L10;
+    }
+L24:;
     if (l3 == 0) goto L3;
     l4 = l3 & 3ull;
     if (l3 >= 4ull) goto L22;
     l10 = 0ull;
     l9 = 1u;
     goto L21;
-L25:;
-    switch (l8 - 3u) {
-    case 0: goto L27;
-    case 1: goto L28;
-    default: goto L10;
-    }
-L28:;
-    if (l3 == 0) goto L3;
-    l4 = l3 & 3ull;
-    if (l3 >= 4ull) goto L16;
-    l10 = 0ull;
-    l9 = 1u;
-    goto L15;
-L27:;
-    if (l3 == 0) goto L3;
-    l4 = l3 & 3ull;
-    if (l3 >= 4ull) goto L19;
-    l10 = 0ull;
-    l9 = 1u;
-    goto L18;
-L24:;
-    if ((l6 | (uint32_t)(l3 == 0)) == 0) goto L9;
-    goto L3;
 L23:;
-    if (l8 != 1u) goto L10;
     if (l3 == 0) goto L3;
     l4 = l3 & 3ull;
-    if (l3 >= 4ull) goto L13;
+    if (l3 >= 4ull) goto L27;
     l10 = 0ull;
     l9 = 1u;
-    goto L12;
+    goto L26;
+L27:;
+    l11 = l3 & 0xfffffffffffffffcull;
+    l10 = 0ull;
+    l9 = 1u;
+    l1 = l2;
+L28:;
+    l9 = l9 & (uint32_t)(((load32(l1 + 12ull) + 0x800000u) | ((load32(l1 + 8ull) + 0x800000u) | ((load32(l1 + 4ull) + 0x800000u) | (load32(l1) + 0x800000u)))) < 0x1000000u);
+    l1 = l1 + 16ull;
+    l10 = l10 + 4ull;
+    if (l11 != l10) goto L28;
+    if (l4 == 0) goto L25;
+L26:;
+    l1 = l2 + (l10 << 2);
+L29:;
+    l9 = l9 & (uint32_t)((load32(l1) + 0x800000u) < 0x1000000u);
+    l1 = l1 + 4ull;
+    l4 = l4 - 1ull;
+    if (l4 != 0ull) goto L29;
+L25:;
+    if (l9 == 0) goto L2;
+    goto L3;
 L22:;
     l11 = l3 & 0xfffffffffffffffcull;
     l10 = 0ull;
     l9 = 1u;
     l1 = l2;
-L29:;
-    l9 = l9 & (uint32_t)(((load32(l1 + 12ull) + 32768u) | ((load32(l1 + 8ull) + 32768u) | ((load32(l1 + 4ull) + 32768u) | (load32(l1) + 32768u)))) < 0x10000u);
+L30:;
+    l9 = l9 & (uint32_t)(((load32(l1 + 12ull) + 0x800000u) | ((load32(l1 + 8ull) + 0x800000u) | ((load32(l1 + 4ull) + 0x800000u) | (load32(l1) + 0x800000u)))) < 0x1000000u);
     l1 = l1 + 16ull;
     l10 = l10 + 4ull;
-    if (l11 != l10) goto L29;
+    if (l11 != l10) goto L30;
     if (l4 == 0) goto L20;
 L21:;
     l1 = l2 + (l10 << 2);
-L30:;
-    l9 = l9 & (uint32_t)((load32(l1) + 32768u) < 0x10000u);
+L31:;
+    l9 = l9 & (uint32_t)((load32(l1) + 0x800000u) < 0x1000000u);
     l1 = l1 + 4ull;
     l4 = l4 - 1ull;
-    if (l4 != 0ull) goto L30;
+    if (l4 != 0ull) goto L31;
 L20:;
     if (l9 == 0) goto L2;
     goto L3;
-L19:;
-    l11 = l3 & 0xfffffffffffffffcull;
-    l10 = 0ull;
-    l9 = 1u;
-    l1 = l2;
-L31:;
-    l9 = l9 & (uint32_t)(((load32(l1 + 12ull) + 0x800000u) | ((load32(l1 + 8ull) + 0x800000u) | ((load32(l1 + 4ull) + 0x800000u) | (load32(l1) + 0x800000u)))) < 0x1000000u);
-    l1 = l1 + 16ull;
-    l10 = l10 + 4ull;
-    if (l11 != l10) goto L31;
-    if (l4 == 0) goto L17;
-L18:;
-    l1 = l2 + (l10 << 2);
-L32:;
-    l9 = l9 & (uint32_t)((load32(l1) + 0x800000u) < 0x1000000u);
-    l1 = l1 + 4ull;
-    l4 = l4 - 1ull;
-    if (l4 != 0ull) goto L32;
-L17:;
-    if (l9 == 0) goto L2;
+L12:;
+    if ((l6 | (uint32_t)(l3 == 0)) == 0) goto L9;
     goto L3;
-L16:;
-    l11 = l3 & 0xfffffffffffffffcull;
+L11:;
+    if (l8 != 1u) goto L10;
+    if (l3 == 0) goto L3;
+    l4 = l3 & 3ull;
+    if (l3 >= 4ull) goto L34;
     l10 = 0ull;
     l9 = 1u;
-    l1 = l2;
-L33:;
-    l9 = l9 & (uint32_t)(((load32(l1 + 12ull) + 0x800000u) | ((load32(l1 + 8ull) + 0x800000u) | ((load32(l1 + 4ull) + 0x800000u) | (load32(l1) + 0x800000u)))) < 0x1000000u);
-    l1 = l1 + 16ull;
-    l10 = l10 + 4ull;
-    if (l11 != l10) goto L33;
-    if (l4 == 0) goto L14;
-L15:;
-    l1 = l2 + (l10 << 2);
+    goto L33;
 L34:;
-    l9 = l9 & (uint32_t)((load32(l1) + 0x800000u) < 0x1000000u);
-    l1 = l1 + 4ull;
-    l4 = l4 - 1ull;
-    if (l4 != 0ull) goto L34;
-L14:;
-    if (l9 == 0) goto L2;
-    goto L3;
-L13:;
     l11 = l3 & 0xfffffffffffffffcull;
     l10 = 0ull;
     l9 = 1u;
@@ -2155,15 +2154,15 @@ L35:;
     l1 = l1 + 16ull;
     l10 = l10 + 4ull;
     if (l11 != l10) goto L35;
-    if (l4 == 0) goto L11;
-L12:;
+    if (l4 == 0) goto L32;
+L33:;
     l1 = l2 + (l10 << 2);
 L36:;
     l9 = l9 & (uint32_t)((load32(l1) + 128u) < 256u);
     l1 = l1 + 4ull;
     l4 = l4 - 1ull;
     if (l4 != 0ull) goto L36;
-L11:;
+L32:;
     if (l9 != 0) goto L3;
     goto L2;
 L10:;
@@ -2323,24 +2322,24 @@ static void f13_write_data_at(uint64_t l0, uint64_t l1, uint64_t l2, uint64_t l3
     l9 = l8 & 65535ull;
     l10 = l4 - 8u;
     switch ((uint32_t)(((uint64_t)((l10 << 13) | ((l10 & 65528u) >> 3))) & 65535ull)) {
-    case 0: goto L5;
-    case 1: goto L8;
-    case 2: goto L7;
-    case 3: goto L6;
+    case 0: goto L4;
+    case 1: goto L7;
+    case 2: goto L6;
+    case 3: goto L5;
     default: goto L3;
     }
-L8:;
+L7:;
     if ((l5 & 65535u) != 2u) goto L3;
     if (l3 == 0) goto L2;
     l11 = 0ull;
     l8 = 0ull;
-    if (l3 == 1ull) goto L9;
+    if (l3 == 1ull) goto L8;
     l1 = l3 & 1ull;
     l12 = l3 & 0xfffffffffffffffeull;
     l11 = 0ull;
     l13 = l2;
     l8 = 0ull;
-L10:;
+L9:;
     l14 = l7 + l11;
     l10 = load32(l13);
     store16(l14, (l10 + 32768u) < 0x10000u ? l10 : 0u);
@@ -2349,16 +2348,16 @@ L10:;
     l13 = l13 + 8ull;
     l11 = l11 + 4ull;
     l8 = l8 + 2ull;
-    if (l12 != l8) goto L10;
+    if (l12 != l8) goto L9;
     if (l1 == 0) goto L2;
-L9:;
+L8:;
     l10 = load32(l2 + (l8 << 2));
     store16(l7 + l11, (l10 + 32768u) < 0x10000u ? l10 : 0u);
     goto L2;
-L7:;
+L6:;
     switch ((l5 & 65535u) - 3u) {
     case 0: goto L11;
-    case 1: goto L4;
+    case 1: goto L10;
     default: goto L3;
     }
 L11:;
@@ -2393,65 +2392,11 @@ L12:;
     store16(l13, l10);
     store8(l13 + 2ull, l10 >> 16);
     goto L2;
-L6:;
-    if ((l5 & 65535u) != 4u) goto L3;
-    if (l3 == 0) goto L2;
-    l14 = l3 & 3ull;
-    l11 = 0ull;
-    l12 = 0ull;
-    if (l3 < 4ull) goto L14;
-    l15 = l3 & 0xfffffffffffffffcull;
-    l11 = 0ull;
-    l12 = 0ull;
-L15:;
-    l13 = l7 + l11;
-    l8 = l2 + l11;
-    store32(l13, load32(l8));
-    store32(l13 + 4ull, load32(l8 + 4ull));
-    store32(l13 + 8ull, load32(l8 + 8ull));
-    store32(l13 + 12ull, load32(l8 + 12ull));
-    l11 = l11 + 16ull;
-    l12 = l12 + 4ull;
-    if (l15 != l12) goto L15;
-    if (l14 == 0) goto L2;
-L14:;
-    l13 = l2 + (l12 << 2);
-    l2 = l0 + (l11 + l1);
-L16:;
-    store32(l2, load32(l13));
-    l13 = l13 + 4ull;
-    l2 = l2 + 4ull;
-    l14 = l14 - 1ull;
-    if (!(l14 == 0)) goto L16;
-    goto L2;
-L5:;
-    if ((l5 & 65535u) != 1u) goto L3;
-    if (l3 == 0) goto L2;
-    l11 = 0ull;
-    if (l3 == 1ull) goto L17;
-    l12 = l3 & 1ull;
-    l14 = l3 & 0xfffffffffffffffeull;
-    l11 = 0ull;
-    l13 = l2;
-L18:;
-    l8 = l7 + l11;
-    l10 = load32(l13);
-    store8(l8, (l10 + 128u) < 256u ? (l10 ^ 128u) : 0u);
-    l10 = load32(l13 + 4ull);
-    store8(l8 + 1ull, (l10 + 128u) < 256u ? (l10 ^ 128u) : 0u);
-    l13 = l13 + 8ull;
-    l11 = l11 + 2ull;
-    if (l14 != l11) goto L18;
-    if (l12 == 0) goto L2;
-L17:;
-    l10 = load32(l2 + (l11 << 2));
-    store8(l7 + l11, (l10 + 128u) < 256u ? (l10 ^ 128u) : 0u);
-    goto L2;
-L4:;
+L10:;
     l11 = l3;
     l13 = l7;
     if (l3 == 0) goto L2;
-L19:;
+L14:;
     l10 = load32(l2);
     store8(l13 + 3ull, 0u);
     l10 = (l10 + 0x800000u) < 0x1000000u ? l10 : 0u;
@@ -2460,7 +2405,61 @@ L19:;
     l2 = l2 + 4ull;
     l13 = l13 + 4ull;
     l11 = l11 - 1ull;
-    if (!(l11 == 0)) goto L19;
+    if (!(l11 == 0)) goto L14;
+    goto L2;
+L5:;
+    if ((l5 & 65535u) != 4u) goto L3;
+    if (l3 == 0) goto L2;
+    l14 = l3 & 3ull;
+    l11 = 0ull;
+    l12 = 0ull;
+    if (l3 < 4ull) goto L15;
+    l15 = l3 & 0xfffffffffffffffcull;
+    l11 = 0ull;
+    l12 = 0ull;
+L16:;
+    l13 = l7 + l11;
+    l8 = l2 + l11;
+    store32(l13, load32(l8));
+    store32(l13 + 4ull, load32(l8 + 4ull));
+    store32(l13 + 8ull, load32(l8 + 8ull));
+    store32(l13 + 12ull, load32(l8 + 12ull));
+    l11 = l11 + 16ull;
+    l12 = l12 + 4ull;
+    if (l15 != l12) goto L16;
+    if (l14 == 0) goto L2;
+L15:;
+    l13 = l2 + (l12 << 2);
+    l2 = l0 + (l11 + l1);
+L17:;
+    store32(l2, load32(l13));
+    l13 = l13 + 4ull;
+    l2 = l2 + 4ull;
+    l14 = l14 - 1ull;
+    if (!(l14 == 0)) goto L17;
+    goto L2;
+L4:;
+    if ((l5 & 65535u) != 1u) goto L3;
+    if (l3 == 0) goto L2;
+    l11 = 0ull;
+    if (l3 == 1ull) goto L18;
+    l12 = l3 & 1ull;
+    l14 = l3 & 0xfffffffffffffffeull;
+    l11 = 0ull;
+    l13 = l2;
+L19:;
+    l8 = l7 + l11;
+    l10 = load32(l13);
+    store8(l8, (l10 + 128u) < 256u ? (l10 ^ 128u) : 0u);
+    l10 = load32(l13 + 4ull);
+    store8(l8 + 1ull, (l10 + 128u) < 256u ? (l10 ^ 128u) : 0u);
+    l13 = l13 + 8ull;
+    l11 = l11 + 2ull;
+    if (l14 != l11) goto L19;
+    if (l12 == 0) goto L2;
+L18:;
+    l10 = load32(l2 + (l11 << 2));
+    store8(l7 + l11, (l10 + 128u) < 256u ? (l10 ^ 128u) : 0u);
     goto L2;
 L3:;
     if (l3 == 0) goto L2;
@@ -4185,342 +4184,318 @@ L1:;
 /* hound_writer::recorder::Recorder::settle */
 static void f23_settle(uint64_t sp, uint64_t l0, uint64_t l1, uint32_t l2) {
     uint32_t l4 = 0, l5 = 0;
-    uint64_t l3 = 0, l6 = 0, l7 = 0;
-    l3 = sp - 112ull;
+    uint64_t l3 = 0, l6 = 0;
+    l3 = sp - 128ull;
     sp = l3;
     l4 = 1u;
     l5 = l2;
     switch ((uint32_t)(((uint64_t)l2) & 255ull)) {
-    case 1: goto L5;
-    case 2: goto L6;
-    default: goto L1;
+    case 1: goto L3;
+    case 2: goto L4;
+    default: goto L2;
     }
-L6:;
+L4:;
     l4 = 0u;
-L5:;
+L3:;
     l6 = l1 + 24ull;
     l2 = load8(l6);
     l5 = l2;
     switch ((uint32_t)(((uint64_t)l2) & 255ull)) {
-    case 1: case 2: case 3: goto L8;
-    case 4: goto L7;
-    default: goto L1;
+    case 1: case 2: case 3: goto L6;
+    case 4: goto L5;
+    default: goto L2;
     }
-L8:;
+L6:;
     l6 = l1 + 32ull;
-    if (load8(l6) != 1u) goto L9;
+    if (load8(l6) != 1u) goto L7;
     l2 = 0u;
     store8(l6, 0u);
     l5 = 0u;
-    goto L1;
-L9:;
-    if ((l2 & 255u) == 3u) goto L10;
-    store64(l3 + 32, 0ull);
-    store64(l3 + 24, 0ull);
-    store64(l3 + 16, 0ull);
-    store64(l3 + 8, 0ull);
-    store64(l3, 0ull);
-    store64(l3 + 40, load64(l1));
-    store64(l3 + 48, load64(l1 + 8));
-    store64(l3 + 56, load64(l1 + 16));
-    store64(l3 + 64, load64(l1 + 24));
-    store64(l3 + 72, load64(l1 + 32));
-    store64(l3 + 104, 0ull);
-    store64(l3 + 96, 0ull);
-    store64(l3 + 88, 0ull);
+    goto L2;
+L7:;
+    if ((l2 & 255u) == 3u) goto L8;
+    store64(l3 + 48, 0ull);
+    store64(l3 + 56, 0ull);
+    store64(l3 + 64, 0ull);
+    store64(l3 + 72, 0ull);
     store64(l3 + 80, 0ull);
-    if (load8(l3 + 60) != 2u) goto L11;
-    store32(l3 + 52, 0u);
-    l2 = 7u;
+    store64(l3 + 8, 0ull);
+    store64(l3 + 16, 0ull);
+    store64(l3 + 24, 0ull);
+    store64(l3 + 32, 0ull);
+    store64(l3 + 40, 0ull);
+    store64(l3 + 88, load64(l1));
+    store64(l3 + 96, load64(l1 + 8));
+    store64(l3 + 104, load64(l1 + 16));
+    store64(l3 + 112, load64(l1 + 24));
+    store64(l3 + 120, load64(l1 + 32));
+    l5 = 1u;
+    f24_next_effect(l3 + 8ull, l3 + 88ull, 1u);
+    if (load8(l3 + 8) != 0) goto L10;
+    l2 = 0u;
+    if (load8(l3 + 16) == 1u) goto L9;
+    l5 = 0u;
+    goto L2;
+L10:;
+    store64(l1, load64(l3 + 88));
+    store64(l1 + 8, load64(l3 + 96));
+    store64(l1 + 16, load64(l3 + 104));
+    store64(l1 + 32, load64(l3 + 120));
+    store64(l1 + 24ull, 0ull);
+    l2 = load8(l3 + 9);
+    goto L2;
+L9:;
+    if (l4 == 0) goto L11;
+    store64(l1 + 32, load64(l3 + 120));
+    store64(l1 + 24, load64(l3 + 112));
+    store64(l1 + 16, load64(l3 + 104));
+    store64(l1 + 8, load64(l3 + 96));
+    store64(l1, load64(l3 + 88));
+    l5 = 0u;
     goto L2;
 L11:;
     l2 = 0u;
-    l6 = load64(l3 + 40);
-    if (l6 < 20ull) goto L2;
-    if ((load16(l3 + 56) & 65535u) == 0) goto L2;
-    l2 = 2u;
-    if (l6 > 0x100000007ull) goto L2;
-    l7 = (uint64_t)load32(l3 + 48);
-    if ((((l7 + l6) + (l7 & 1ull)) - 8ull) > 0xffffffffull) goto L2;
-    l2 = load32(l3 + 52);
-    f24_effect(l3 + 80ull, l3 + 40ull, l2);
-    if (load8(l3 + 80) != 1u) goto L3;
-    store32(l3 + 52, l2 + 1u);
-    if (l4 == 0) goto L12;
-    store64(l1 + 32, load64(l3 + 72));
-    store64(l1 + 24, load64(l3 + 64));
-    store64(l1 + 16, load64(l3 + 56));
-    store64(l1 + 8, load64(l3 + 48));
-    store64(l1, load64(l3 + 40));
-    goto L3;
-L12:;
-    l2 = 0u;
-    f25_next_effect(sp, l3, l3 + 40ull, 0u);
+    f24_next_effect(l3 + 48ull, l3 + 88ull, 0u);
     store64(l1 + 24ull, 0ull);
-    store64(l1 + 32, load64(l3 + 72));
-    store64(l1 + 16, load64(l3 + 56));
-    store64(l1 + 8, load64(l3 + 48));
-    store64(l1, load64(l3 + 40));
+    store64(l1 + 32, load64(l3 + 120));
+    store64(l1 + 16, load64(l3 + 104));
+    store64(l1 + 8, load64(l3 + 96));
+    store64(l1, load64(l3 + 88));
     l5 = 0u;
-    if (load8(l3) == 0) goto L1;
+    if (load8(l3 + 48) == 0) goto L2;
     l5 = 1u;
-    l2 = load8(l3 + 1);
-    goto L1;
-L10:;
+    l2 = load8(l3 + 49);
+    goto L2;
+L8:;
     if (l4 == 0) goto L13;
     l2 = load32(l1 + 28ull);
     store64(l1 + 24ull, 0ull);
     store32(l1 + 8ull, l2);
-    goto L3;
+    goto L12;
 L13:;
     l6 = l1 + 20ull;
     if (load8(l6) != 0) goto L14;
     store8(l6, 1u);
 L14:;
     store64(l1 + 24ull, 4ull);
-    goto L3;
-L7:;
+L12:;
+    l2 = 0u;
+    l5 = 0u;
+    goto L2;
+L5:;
     store64(l6, 0ull);
     l5 = 1u;
     l2 = 6u;
-    goto L1;
-    TRAP();
-L3:;
-    l2 = 0u;
-    l5 = 0u;
-    goto L1;
 L2:;
-    store64(l1 + 32, load64(l3 + 72));
-    store64(l1 + 16, load64(l3 + 56));
-    store64(l1 + 8, load64(l3 + 48));
-    store64(l1, load64(l3 + 40));
-    store64(l1 + 24ull, 0ull);
-    l5 = 1u;
-L1:;
     store8(l0 + 1, l2);
     store8(l0, l5);
-}
-
-/* hound_writer::recorder::Recorder::effect */
-static void f24_effect(uint64_t l0, uint64_t l1, uint32_t l2) {
-    uint32_t l4 = 0, l6 = 0;
-    uint64_t l3 = 0, l5 = 0, l7 = 0;
-    if (load8(l1 + 20ull) != 0) goto L8;
-    l3 = load64(l1);
-    l4 = load32(l1 + 8ull);
-    if ((l4 & 1u) != 0) goto L10;
-    l5 = 1ull;
-    l6 = 0u;
-    l1 = 0ull;
-    l7 = 0ull;
-    switch (l2) {
-    case 0: case 3: goto L1;
-    case 1: goto L12;
-    case 2: goto L11;
-    default: goto L9;
-    }
-L12:;
-    l6 = (((uint32_t)l3) + l4) - 8u;
-    goto L2;
-L11:;
-    l7 = l3 - 4ull;
-    goto L3;
-L10:;
-    l5 = 1ull;
-    l6 = 0u;
-    l1 = 0ull;
-    l7 = 0ull;
-    switch (l2) {
-    case 0: goto L15;
-    case 1: case 4: goto L1;
-    case 2: goto L14;
-    case 3: goto L13;
-    default: goto L9;
-    }
-L15:;
-    l7 = l3 + ((uint64_t)l4);
-    l1 = 1ull;
-    l5 = 1ull;
-    goto L1;
-L14:;
-    l6 = (((uint32_t)l3) + l4) - 7u;
-    goto L2;
-L13:;
-    l7 = l3 - 4ull;
-    goto L3;
-L9:;
-    l1 = 0ull;
-    l7 = 0ull;
-    l5 = 0ull;
-    goto L1;
-L8:;
-    if (l2 != 0) goto L16;
-    store64(l0, 1ull);
-    store64(l0 + 8ull, 0ull);
-    store64(l0 + 16ull, 0ull);
-    store32(l0 + 24ull, 0u);
     return;
-L16:;
-    l3 = load64(l1);
-    l4 = load32(l1 + 8ull);
-    if ((l4 & 1u) != 0) goto L18;
-    l5 = 1ull;
-    l6 = 0u;
-    l1 = 0ull;
-    l7 = 0ull;
-    switch (l2 - 1u) {
-    case 0: case 3: goto L4;
-    case 1: goto L20;
-    case 2: goto L19;
-    default: goto L17;
-    }
-L20:;
-    l6 = (((uint32_t)l3) + l4) - 8u;
-    goto L5;
-L19:;
-    l7 = l3 - 4ull;
-    goto L6;
-L18:;
-    l5 = 1ull;
-    l6 = 0u;
-    l1 = 0ull;
-    l7 = 0ull;
-    switch (l2 - 1u) {
-    case 0: goto L23;
-    case 1: case 4: goto L4;
-    case 2: goto L22;
-    case 3: goto L21;
-    default: goto L17;
-    }
-L23:;
-    l7 = l3 + ((uint64_t)l4);
-    l1 = 1ull;
-    l5 = 1ull;
-    goto L4;
-L22:;
-    l6 = (((uint32_t)l3) + l4) - 7u;
-    goto L5;
-L21:;
-    l7 = l3 - 4ull;
-    goto L6;
-L17:;
-    l1 = 0ull;
-    l7 = 0ull;
-    l5 = 0ull;
-    goto L4;
     TRAP();
-L6:;
-    l1 = 2ull;
-    l6 = l4;
-    goto L4;
-L5:;
-    l7 = 4ull;
-    l1 = 2ull;
-L4:;
-    store64(l0, l5);
-    store32(l0 + 24ull, l6);
-    store64(l0 + 16ull, l7);
-    store64(l0 + 8ull, l1);
-    return;
-L3:;
-    l1 = 2ull;
-    l6 = l4;
-    goto L1;
-L2:;
-    l7 = 4ull;
-    l1 = 2ull;
-L1:;
-    store64(l0, l5);
-    store32(l0 + 24ull, l6);
-    store64(l0 + 16ull, l7);
-    store64(l0 + 8ull, l1);
 }
 
 /* hound_writer::recorder::Recorder::next_effect */
-static void f25_next_effect(uint64_t sp, uint64_t l0, uint64_t l1, uint32_t l2) {
-    uint32_t l4 = 0;
-    uint64_t l3 = 0, l5 = 0, l6 = 0;
-    l3 = sp - 64ull;
-    sp = l3;
-    store64(l3 + 56, 0ull);
-    store64(l3 + 48, 0ull);
-    store64(l3 + 40, 0ull);
-    store64(l3 + 32, 0ull);
-    store64(l3, 0ull);
-    store64(l3 + 8, 0ull);
-    store64(l3 + 16, 0ull);
-    store64(l3 + 24, 0ull);
-    if (load8(l1 + 20ull) != 2u) goto L4;
+static void f24_next_effect(uint64_t l0, uint64_t l1, uint32_t l2) {
+    uint32_t l3 = 0, l4 = 0, l6 = 0, l10 = 0;
+    uint64_t l5 = 0, l7 = 0, l8 = 0, l9 = 0;
+    l3 = load8(l1 + 20ull);
+    if (l3 != 2u) goto L12;
     store32(l1 + 12ull, 0u);
     store64(l0 + 8ull, 0ull);
     store16(l0, 1793u);
     store64(l0 + 16ull, 0ull);
     store64(l0 + 24ull, 0ull);
     store32(l0 + 32ull, 0u);
-    goto L1;
-L4:;
+    return;
+L12:;
     l4 = 0u;
     l5 = load64(l1);
-    if (l5 < 20ull) goto L2;
+    if (l5 < 20ull) goto L10;
     l4 = 0u;
-    if (load16(l1 + 16ull) == 0) goto L2;
+    if (load16(l1 + 16ull) == 0) goto L10;
     l4 = 2u;
-    if (l5 > 0x100000007ull) goto L2;
-    l6 = (uint64_t)load32(l1 + 8ull);
-    if ((((l6 + l5) + (l6 & 1ull)) - 8ull) > 0xffffffffull) goto L2;
+    if (l5 > 0x100000007ull) goto L10;
+    l6 = load32(l1 + 8ull);
+    l7 = (uint64_t)l6;
+    l8 = l5 + l7;
+    l7 = l8 + (l7 & 1ull);
+    if ((l7 - 8ull) > 0xffffffffull) goto L10;
     l4 = load32(l1 + 12ull);
-    if (l2 != 0) goto L5;
-    if (l4 == 0) goto L5;
-    f24_effect(l3 + 32ull, l1, l4 - 1u);
-    store32(l1 + 12ull, 0u);
-    l5 = l0 + 8ull;
-    if (load8(l3 + 32) != 1u) goto L6;
-    if ((load8(l3 + 40) & 255u) != 0) goto L6;
-    store8(l1 + 20ull, 2u);
-    store64(l5, 0ull);
-    store16(l0, 1793u);
-    store64(l5 + 8, 0ull);
-    store64(l5 + 16, 0ull);
-    store32(l5 + 24, 0u);
+    if (l2 != 0) goto L13;
+    if (l4 == 0) goto L13;
+    if (l3 != 0) goto L16;
+    l2 = l6 & 1u;
+    switch (l4 - 1u) {
+    case 0: goto L15;
+    case 1: goto L19;
+    case 3: goto L18;
+    case 4: goto L17;
+    default: goto L14;
+    }
+L19:;
+    if (l2 != 0) goto L1;
+    goto L14;
+L18:;
+    if (l2 == 0) goto L1;
+    goto L14;
+L17:;
+    if (l2 != 0) goto L1;
+    goto L14;
+L16:;
+    if (l4 == 1u) goto L1;
+    l2 = l6 & 1u;
+    switch (l4 - 2u) {
+    case 0: goto L23;
+    case 1: goto L22;
+    case 3: goto L21;
+    case 4: goto L20;
+    default: goto L14;
+    }
+L23:;
+    if (l2 == 0) goto L1;
+    goto L14;
+L22:;
+    if (l2 != 0) goto L1;
+    goto L14;
+L21:;
+    if (l2 == 0) goto L1;
+    goto L14;
+L20:;
+    if (l2 == 0) goto L14;
     goto L1;
-L6:;
+L15:;
+    if (l2 == 0) goto L1;
+L14:;
     store8(l1 + 20ull, 1u);
-    store64(l5, 0ull);
+    store32(l1 + 12ull, 0u);
+    store64(l0 + 8ull, 0ull);
     store16(l0, 1537u);
-    store64(l5 + 8, 0ull);
-    store64(l5 + 16, 0ull);
-    store32(l5 + 24, 0u);
-    goto L1;
-L5:;
-    f24_effect(l3, l1, l4);
-    l5 = (uint64_t)load8(l3);
-    if (l5 != 1ull) goto L8;
-    l4 = l4 + 1u;
-    goto L7;
-L8:;
-    l4 = 0u;
+    store64(l0 + 16ull, 0ull);
+    store64(l0 + 24ull, 0ull);
+    store32(l0 + 32ull, 0u);
+    return;
+L13:;
+    if (l3 != 0) goto L25;
+    l3 = l6 & 1u;
+    l2 = ((uint32_t)l7) - 8u;
+    switch (l4) {
+    case 0: goto L30;
+    case 1: goto L29;
+    case 2: goto L28;
+    case 3: goto L27;
+    case 4: goto L26;
+    default: goto L24;
+    }
+L30:;
+    if (l3 == 0) goto L8;
+    l7 = 1ull;
+    l2 = 0u;
+    l9 = l8;
+    goto L3;
+L29:;
+    if (l3 != 0) goto L8;
+    goto L4;
+L28:;
+    if (l3 != 0) goto L4;
+    goto L6;
+L27:;
+    if (l3 != 0) goto L6;
+    goto L8;
+L26:;
+    if (l3 != 0) goto L8;
+    goto L24;
+L25:;
+    l9 = 0ull;
+    l2 = 0u;
+    if (l4 == 0) goto L7;
+    l3 = l6 & 1u;
+    l10 = ((uint32_t)l7) - 8u;
+    switch (l4 - 1u) {
+    case 0: goto L36;
+    case 1: goto L35;
+    case 2: goto L34;
+    case 3: goto L33;
+    case 4: goto L31;
+    default: goto L24;
+    }
+L36:;
+    if (l3 == 0) goto L7;
+    l7 = 1ull;
+    l9 = l8;
+    goto L3;
+L35:;
+    if (l3 != 0) goto L7;
+    goto L9;
+L34:;
+    if (l3 != 0) goto L9;
+    goto L32;
+L33:;
+    l7 = 0ull;
+    if (l3 == 0) goto L3;
+L32:;
+    l9 = l5 - 4ull;
+    goto L5;
+L31:;
+    l7 = 0ull;
+    if (l3 != 0) goto L3;
+L24:;
+    l2 = 0u;
     store8(l1 + 20ull, 0u);
-L7:;
-    store32(l1 + 12ull, l4);
-    store32(l0 + 32ull, load32(l3 + 24));
-    store64(l0 + 24ull, load64(l3 + 16));
-    store64(l0 + 16ull, (uint64_t)load8(l3 + 8));
-    store64(l0 + 8ull, l5);
-    store16(l0, 0u);
-    goto L1;
+    store32(l1 + 12ull, 0u);
+    l9 = 0ull;
+    l7 = 0ull;
+    l1 = 0ull;
+    goto L2;
     TRAP();
-L2:;
+L10:;
     store8(l0, 1u);
     store64(l0 + 8ull, 0ull);
     store8(l0 + 1ull, l4);
     store64(l0 + 16ull, 0ull);
     store64(l0 + 24ull, 0ull);
     store32(l0 + 32ull, 0u);
+    return;
+L9:;
+    l7 = 2ull;
+    l9 = 4ull;
+    l2 = l10;
+    goto L3;
+L8:;
+    l9 = 0ull;
+    l2 = 0u;
+L7:;
+    l7 = 0ull;
+    goto L3;
+L6:;
+    l9 = l5 - 4ull;
+L5:;
+    l7 = 2ull;
+    l2 = l6;
+    goto L3;
+L4:;
+    l7 = 2ull;
+    l9 = 4ull;
+L3:;
+    store32(l1 + 12ull, l4 + 1u);
+    l1 = 1ull;
+L2:;
+    store16(l0, 0u);
+    store32(l0 + 32ull, l2);
+    store64(l0 + 24ull, l9);
+    store64(l0 + 16ull, l7);
+    store64(l0 + 8ull, l1);
+    return;
 L1:;
+    store8(l1 + 20ull, 2u);
+    store32(l1 + 12ull, 0u);
+    store64(l0 + 8ull, 0ull);
+    store16(l0, 1793u);
+    store64(l0 + 16ull, 0ull);
+    store64(l0 + 24ull, 0ull);
+    store32(l0 + 32ull, 0u);
 }
 
-/* hound_slices::repairing::repair_file */
-static void f26_repair_file(uint64_t sp, uint64_t l0, uint64_t l1, uint64_t l2, uint64_t l3, uint32_t l4, uint64_t l5) {
+/* hound_slices::repairer::repair_file */
+static void f25_repair_file(uint64_t sp, uint64_t l0, uint64_t l1, uint64_t l2, uint64_t l3, uint32_t l4, uint64_t l5) {
     uint32_t l7 = 0, l8 = 0, l9 = 0, l10 = 0, l13 = 0, l14 = 0, l15 = 0, l16 = 0, l17 = 0, l18 = 0, l20 = 0;
     uint64_t l6 = 0, l11 = 0, l12 = 0, l19 = 0;
     l6 = sp - 80ull;
@@ -4615,7 +4590,7 @@ L5:;
     store16(l5 + 4, l18);
     store32(l5, l17);
     store32(l5 + 44, div32(l13, l4));
-    store16(l5 + 10, (uint32_t)((l15 & 255u) != 1u));
+    store16(l5 + 10, (uint32_t)((l15 & 255u) == 0));
     store64(l0 + 8ull, l19);
     store32(l0, 0u);
     goto L2;
@@ -4629,7 +4604,7 @@ L1:;
 }
 
 /* hound_slices::repairer::repairer_for_c */
-static void f27_repairer_for_c(uint64_t sp, uint64_t l0, uint64_t l1, uint64_t l2, uint64_t l3) {
+static void f26_repairer_for_c(uint64_t sp, uint64_t l0, uint64_t l1, uint64_t l2, uint64_t l3) {
     uint32_t l5 = 0, l6 = 0, l9 = 0, l10 = 0, l12 = 0, l13 = 0, l14 = 0, l15 = 0, l16 = 0, l17 = 0, l18 = 0, l19 = 0, l20 = 0, l23 = 0, l24 = 0, l25 = 0, l26 = 0, l27 = 0, l28 = 0, l29 = 0, l30 = 0, l31 = 0, l32 = 0, l33 = 0, l34 = 0, l36 = 0, l37 = 0, l38 = 0;
     uint64_t l4 = 0, l7 = 0, l8 = 0, l11 = 0, l21 = 0, l22 = 0, l35 = 0;
     l4 = sp - 128ull;
@@ -4770,7 +4745,7 @@ L20:;
     l30 = 0u;
     goto L24;
 L25:;
-    l30 = (uint32_t)((l30 & 255u) != 1u);
+    l30 = (uint32_t)((l30 & 255u) == 0);
     l33 = l16;
     l16 = l5;
 L24:;
@@ -4786,7 +4761,7 @@ L18:;
     store64(l4 + 24, load64(l4 + 64));
     store64(l4 + 16, load64(l4 + 56));
     store64(l4 + 8, load64(l4 + 48));
-    l30 = (uint32_t)((l30 & 255u) != 1u);
+    l30 = (uint32_t)((l30 & 255u) == 0);
     l26 = 0u;
     l23 = 4u;
     l35 = 0ull;
@@ -4802,7 +4777,7 @@ L17:;
     store64(l4 + 24, load64(l4 + 64));
     store64(l4 + 16, load64(l4 + 56));
     store64(l4 + 8, load64(l4 + 48));
-    l30 = (uint32_t)((l30 & 255u) != 1u);
+    l30 = (uint32_t)((l30 & 255u) == 0);
     l26 = 0u;
     l23 = 5u;
     l35 = 0ull;
@@ -4819,7 +4794,7 @@ L16:;
     store64(l4 + 16, load64(l4 + 56));
     store64(l4 + 8, load64(l4 + 48));
     l23 = (l10 & 1u) != 0 ? 6u : 7u;
-    l30 = (uint32_t)((l30 & 255u) != 1u);
+    l30 = (uint32_t)((l30 & 255u) == 0);
     l26 = 0u;
     l35 = l11;
     l2 = l21;
@@ -4834,7 +4809,7 @@ L15:;
     store64(l4 + 24, load64(l4 + 64));
     store64(l4 + 16, load64(l4 + 56));
     store64(l4 + 8, load64(l4 + 48));
-    l30 = (uint32_t)((l30 & 255u) != 1u);
+    l30 = (uint32_t)((l30 & 255u) == 0);
     l26 = 0u;
     l23 = 8u;
     l35 = 0ull;
@@ -4851,8 +4826,8 @@ L13:;
     store64(l4 + 16, load64(l4 + 56));
     store64(l4 + 8, load64(l4 + 48));
     l28 = l6 & 1u;
-    l30 = (uint32_t)((l15 & 255u) != 1u);
     l33 = (l18 << 8) | l19;
+    l30 = (uint32_t)((l15 & 255u) == 0);
     l23 = 9u;
     l35 = 0ull;
     l13 = l14;
@@ -4869,8 +4844,8 @@ L12:;
     store64(l4 + 8, load64(l4 + 48));
     l28 = l6 & 1u;
     l26 = l12 & 255u;
-    l30 = (uint32_t)((l15 & 255u) != 1u);
     l33 = (l18 << 8) | l19;
+    l30 = (uint32_t)((l15 & 255u) == 0);
     l23 = 10u;
     l35 = 0ull;
     l13 = l14;
@@ -4884,11 +4859,11 @@ L11:;
     store64(l4 + 24, load64(l4 + 64));
     store64(l4 + 16, load64(l4 + 56));
     store64(l4 + 8, load64(l4 + 48));
-    l26 = (uint32_t)((l20 & 255u) != 0u);
     l23 = 11u;
     l14 = l34;
     l16 = l32;
     l13 = l31;
+    l26 = l20;
 L10:;
     store32(l0 + 16, l9);
     store16(l0 + 14, 0u);
@@ -4920,8 +4895,8 @@ L10:;
 }
 
 /* rattle::export hound_append_f32 */
-static uint64_t f29_hound_append_f32(uint64_t sp, uint64_t l0, uint64_t l1, uint64_t l2, uint64_t l3, uint64_t l4) {
-    uint32_t l13 = 0, l19 = 0, l20 = 0;
+static uint64_t f28_hound_append_f32(uint64_t sp, uint64_t l0, uint64_t l1, uint64_t l2, uint64_t l3, uint64_t l4) {
+    uint32_t l13 = 0, l19 = 0;
     uint64_t l5 = 0, l6 = 0, l7 = 0, l8 = 0, l9 = 0, l10 = 0, l11 = 0, l12 = 0, l14 = 0, l15 = 0, l16 = 0, l17 = 0, l18 = 0;
     l5 = sp - 80ull;
     sp = l5;
@@ -4934,7 +4909,7 @@ static uint64_t f29_hound_append_f32(uint64_t sp, uint64_t l0, uint64_t l1, uint
     store64(l5 + 8, 0ull);
     store64(l5 + 16, 0ull);
     store64(l5 + 24, 0ull);
-    if (l1 < l2) goto L4;
+    if (l1 < l2) goto L5;
     l6 = l0 == 0 ? 4096ull : 0ull;
     l7 = l0 + l6;
     f3_find_samples(sp, l5 + 32ull, l7, l2);
@@ -4943,32 +4918,32 @@ static uint64_t f29_hound_append_f32(uint64_t sp, uint64_t l0, uint64_t l1, uint
     l2 = 0xfffffffffffffffdull;
     goto L1;
 L13:;
-    if (load16(l5 + 48) != 32u) goto L8;
-    if ((load16(l5 + 52) & 65535u) != 4u) goto L8;
+    if (load16(l5 + 48) != 32u) goto L9;
+    if ((load16(l5 + 52) & 65535u) != 4u) goto L9;
     l8 = (uint64_t)load32(l5 + 72);
     l9 = l8 << 2;
     l10 = load64(l5 + 64);
     l11 = l9 + l10;
-    if (l2 < l11) goto L7;
-    if (l4 >= 0x100000000ull) goto L6;
+    if (l2 < l11) goto L8;
+    if (l4 >= 0x100000000ull) goto L7;
     f7_sizes_of(l5 + 8ull, load16(l5 + 40), 4u, l10, l4 + l8);
-    if (load8(l5 + 8) != 0) goto L10;
+    if (load8(l5 + 8) != 0) goto L14;
     l2 = load64(l5 + 24);
-    if (l1 < l2) goto L4;
+    if (l1 < l2) goto L5;
     l12 = l7 + l11;
     l13 = load32(l5 + 16);
-    if (l4 == 0) goto L14;
+    if (l4 == 0) goto L15;
     l14 = l3 == 0 ? 4096ull : 0ull;
     l15 = l4 & 3ull;
     l8 = 0ull;
     l16 = 0ull;
-    if (l4 < 4ull) goto L15;
+    if (l4 < 4ull) goto L16;
     l17 = l3 + l14;
     l1 = (l4 >> 2) & 0x3fffffffull;
     l16 = l1 << 2;
     l18 = l1 << 4;
     l8 = 0ull;
-L16:;
+L17:;
     l1 = l12 + l8;
     l11 = l17 + l8;
     store32(l1, load32(l11));
@@ -4976,90 +4951,86 @@ L16:;
     store32(l1 + 8ull, load32(l11 + 8ull));
     store32(l1 + 12ull, load32(l11 + 12ull));
     l8 = l8 + 16ull;
-    if (l18 != l8) goto L16;
-    if (l15 == 0) goto L14;
-L15:;
+    if (l18 != l8) goto L17;
+    if (l15 == 0) goto L15;
+L16:;
     l1 = l3 + (l14 + (l16 << 2));
     l0 = l0 + (((l6 + l8) + l10) + l9);
-L17:;
+L18:;
     store32(l0, load32(l1));
     l1 = l1 + 4ull;
     l0 = l0 + 4ull;
     l15 = l15 - 1ull;
-    if (l15 != 0ull) goto L17;
-L14:;
-    if ((l13 & 1u) == 0) goto L18;
+    if (l15 != 0ull) goto L18;
+L15:;
+    if ((l13 & 1u) == 0) goto L19;
     store8(l12 + (l4 << 2), 0u);
-L18:;
+L19:;
     store32(l7 + 4ull, ((uint32_t)l2) - 8u);
     store32((l7 + l10) - 4ull, l13);
     goto L1;
-L12:;
-    l19 = load8(l5 + 35);
-    l20 = load8(l5 + 34);
-    l13 = load8(l5 + 33);
-    goto L9;
-    TRAP();
-L10:;
+L14:;
+    l13 = load8(l5 + 10);
     l19 = load8(l5 + 11);
-    l20 = load8(l5 + 10);
-    l13 = load8(l5 + 9);
-L9:;
     l2 = 0xfffffffffffffffdull;
-    switch ((uint32_t)(((uint64_t)l13) & 255ull)) {
+    switch ((uint32_t)((uint64_t)load8(l5 + 9))) {
     case 1: goto L1;
-    case 2: goto L19;
-    case 3: goto L8;
-    case 4: goto L7;
-    case 5: goto L6;
-    case 6: goto L5;
-    case 7: goto L4;
-    case 8: goto L3;
+    case 2: goto L10;
+    case 3: goto L9;
+    case 4: goto L8;
+    case 5: goto L7;
+    case 6: goto L6;
+    case 7: goto L5;
+    case 8: goto L4;
     case 9: goto L2;
-    default: goto L20;
+    default: goto L11;
     }
-L20:;
+L12:;
+    l19 = load8(l5 + 34);
+    l13 = load8(l5 + 33);
+L11:;
     l2 = 0xffffffffffffffffull;
-    switch ((uint32_t)(((uint64_t)l20) & 255ull)) {
-    case 1: goto L21;
-    case 2: goto L22;
+    switch ((uint32_t)(((uint64_t)l13) & 255ull)) {
+    case 1: goto L20;
+    case 2: goto L21;
     default: goto L1;
     }
-L22:;
+L21:;
     l2 = 0xfffffffffffffffeull;
     goto L1;
-L21:;
+L20:;
     l2 = 0xfffffffffffffff6ull - (((uint64_t)l19) & 255ull);
     goto L1;
-L19:;
+L10:;
     l2 = 0xfffffffffffffffcull;
     goto L1;
-L8:;
+L9:;
     l2 = 0xfffffffffffffffbull;
     goto L1;
-L7:;
+L8:;
     l2 = 0xfffffffffffffffaull;
     goto L1;
-L6:;
+L7:;
     l2 = 0xfffffffffffffff9ull;
     goto L1;
-L5:;
+L6:;
     l2 = 0xfffffffffffffff8ull;
     goto L1;
-L4:;
+L5:;
     l2 = 0xfffffffffffffff7ull;
     goto L1;
-L3:;
+L4:;
     l2 = 0xffffffffffffffe1ull;
     goto L1;
+    TRAP();
 L2:;
-    l2 = load64(DATA(208) + ((((uint64_t)l20) & 255ull) << 3));
+    l2 = load64(DATA(208) + ((((uint64_t)l13) & 255ull) << 3));
 L1:;
     return l2;
 }
 
 /* rattle::export hound_append_i16 */
-static uint64_t f31_hound_append_i16(uint64_t sp, uint64_t l0, uint64_t l1, uint64_t l2, uint64_t l3, uint64_t l4) {
+static uint64_t f30_hound_append_i16(uint64_t sp, uint64_t l0, uint64_t l1, uint64_t l2, uint64_t l3, uint64_t l4) {
     uint32_t l6 = 0, l7 = 0, l10 = 0;
     uint64_t l5 = 0, l8 = 0, l9 = 0, l11 = 0;
     l5 = sp - 80ull;
@@ -5077,7 +5048,7 @@ static uint64_t f31_hound_append_i16(uint64_t sp, uint64_t l0, uint64_t l1, uint
     if (l1 < l2) goto L4;
     l0 = l0 + (l0 == 0 ? 4096ull : 0ull);
     f3_find_samples(sp, l5 + 32ull, l0, l2);
-    if (load8(l5 + 32) != 0) goto L12;
+    if (load8(l5 + 32) != 0) goto L14;
     l6 = load16(l5 + 48);
     l7 = load16(l5 + 40);
     l8 = (uint64_t)load32(l5 + 72);
@@ -5085,12 +5056,12 @@ static uint64_t f31_hound_append_i16(uint64_t sp, uint64_t l0, uint64_t l1, uint
     l10 = load16(l5 + 52);
     l3 = l3 + (l3 == 0 ? 4096ull : 0ull);
     f8_check_samples(sp, l5 + 28ull, l5 + 40ull, l3, l4);
-    if (load8(l5 + 28) != 0) goto L10;
+    if (load8(l5 + 28) != 0) goto L15;
     l11 = ((((uint64_t)l10) & 65535ull) * l8) + l9;
     if (l2 < l11) goto L7;
     if (l4 >= 0x100000000ull) goto L6;
     f7_sizes_of(l5, l7, l10, l9, l4 + l8);
-    if (load8(l5) != 0) goto L9;
+    if (load8(l5) != 0) goto L12;
     l2 = load64(l5 + 16);
     if (l1 < l2) goto L4;
     l7 = load32(l5 + 8);
@@ -5098,38 +5069,37 @@ static uint64_t f31_hound_append_i16(uint64_t sp, uint64_t l0, uint64_t l1, uint
     store32(l0 + 4ull, ((uint32_t)l2) - 8u);
     store32((l0 + l9) - 4ull, l7);
     goto L1;
-L12:;
-    l6 = load8(l5 + 35);
+L15:;
+    l7 = load8(l5 + 31);
+    l10 = load8(l5 + 30);
+    l6 = load8(l5 + 29);
+    goto L11;
+L14:;
     l7 = load8(l5 + 34);
     l10 = load8(l5 + 33);
-    goto L8;
+    goto L10;
     TRAP();
-L10:;
-    l6 = load8(l5 + 31);
-    l7 = load8(l5 + 30);
-    l10 = load8(l5 + 29);
-    goto L8;
-L9:;
-    l6 = load8(l5 + 3);
-    l7 = load8(l5 + 2);
-    l10 = load8(l5 + 1);
-L8:;
+L12:;
+    l7 = load8(l5 + 3);
+    l10 = load8(l5 + 2);
+    l6 = load8(l5 + 1);
+L11:;
     l2 = 0xfffffffffffffffdull;
-    switch ((uint32_t)(((uint64_t)l10) & 255ull)) {
+    switch ((uint32_t)(((uint64_t)l6) & 255ull)) {
     case 1: goto L1;
-    case 2: goto L14;
-    case 3: goto L13;
+    case 2: goto L9;
+    case 3: goto L8;
     case 4: goto L7;
     case 5: goto L6;
     case 6: goto L5;
     case 7: goto L4;
     case 8: goto L3;
     case 9: goto L2;
-    default: goto L15;
+    default: goto L10;
     }
-L15:;
+L10:;
     l2 = 0xffffffffffffffffull;
-    switch ((uint32_t)(((uint64_t)l7) & 255ull)) {
+    switch ((uint32_t)(((uint64_t)l10) & 255ull)) {
     case 1: goto L16;
     case 2: goto L17;
     default: goto L1;
@@ -5138,12 +5108,12 @@ L17:;
     l2 = 0xfffffffffffffffeull;
     goto L1;
 L16:;
-    l2 = 0xfffffffffffffff6ull - (((uint64_t)l6) & 255ull);
+    l2 = 0xfffffffffffffff6ull - (((uint64_t)l7) & 255ull);
     goto L1;
-L14:;
+L9:;
     l2 = 0xfffffffffffffffcull;
     goto L1;
-L13:;
+L8:;
     l2 = 0xfffffffffffffffbull;
     goto L1;
 L7:;
@@ -5162,13 +5132,13 @@ L3:;
     l2 = 0xffffffffffffffe1ull;
     goto L1;
 L2:;
-    l2 = load64(DATA(208) + ((((uint64_t)l7) & 255ull) << 3));
+    l2 = load64(DATA(208) + ((((uint64_t)l10) & 255ull) << 3));
 L1:;
     return l2;
 }
 
 /* rattle::export hound_append_i32 */
-static uint64_t f33_hound_append_i32(uint64_t sp, uint64_t l0, uint64_t l1, uint64_t l2, uint64_t l3, uint64_t l4) {
+static uint64_t f32_hound_append_i32(uint64_t sp, uint64_t l0, uint64_t l1, uint64_t l2, uint64_t l3, uint64_t l4) {
     uint32_t l6 = 0, l7 = 0, l10 = 0;
     uint64_t l5 = 0, l8 = 0, l9 = 0, l11 = 0;
     l5 = sp - 80ull;
@@ -5186,7 +5156,7 @@ static uint64_t f33_hound_append_i32(uint64_t sp, uint64_t l0, uint64_t l1, uint
     if (l1 < l2) goto L4;
     l0 = l0 + (l0 == 0 ? 4096ull : 0ull);
     f3_find_samples(sp, l5 + 32ull, l0, l2);
-    if (load8(l5 + 32) != 0) goto L12;
+    if (load8(l5 + 32) != 0) goto L14;
     l6 = load16(l5 + 48);
     l7 = load16(l5 + 40);
     l8 = (uint64_t)load32(l5 + 72);
@@ -5194,12 +5164,12 @@ static uint64_t f33_hound_append_i32(uint64_t sp, uint64_t l0, uint64_t l1, uint
     l10 = load16(l5 + 52);
     l3 = l3 + (l3 == 0 ? 4096ull : 0ull);
     f11_check_samples(sp, l5 + 28ull, l5 + 40ull, l3, l4);
-    if (load8(l5 + 28) != 0) goto L10;
+    if (load8(l5 + 28) != 0) goto L15;
     l11 = ((((uint64_t)l10) & 65535ull) * l8) + l9;
     if (l2 < l11) goto L7;
     if (l4 >= 0x100000000ull) goto L6;
     f7_sizes_of(l5, l7, l10, l9, l4 + l8);
-    if (load8(l5) != 0) goto L9;
+    if (load8(l5) != 0) goto L12;
     l2 = load64(l5 + 16);
     if (l1 < l2) goto L4;
     l7 = load32(l5 + 8);
@@ -5207,38 +5177,37 @@ static uint64_t f33_hound_append_i32(uint64_t sp, uint64_t l0, uint64_t l1, uint
     store32(l0 + 4ull, ((uint32_t)l2) - 8u);
     store32((l0 + l9) - 4ull, l7);
     goto L1;
-L12:;
-    l6 = load8(l5 + 35);
+L15:;
+    l7 = load8(l5 + 31);
+    l10 = load8(l5 + 30);
+    l6 = load8(l5 + 29);
+    goto L11;
+L14:;
     l7 = load8(l5 + 34);
     l10 = load8(l5 + 33);
-    goto L8;
+    goto L10;
     TRAP();
-L10:;
-    l6 = load8(l5 + 31);
-    l7 = load8(l5 + 30);
-    l10 = load8(l5 + 29);
-    goto L8;
-L9:;
-    l6 = load8(l5 + 3);
-    l7 = load8(l5 + 2);
-    l10 = load8(l5 + 1);
-L8:;
+L12:;
+    l7 = load8(l5 + 3);
+    l10 = load8(l5 + 2);
+    l6 = load8(l5 + 1);
+L11:;
     l2 = 0xfffffffffffffffdull;
-    switch ((uint32_t)(((uint64_t)l10) & 255ull)) {
+    switch ((uint32_t)(((uint64_t)l6) & 255ull)) {
     case 1: goto L1;
-    case 2: goto L14;
-    case 3: goto L13;
+    case 2: goto L9;
+    case 3: goto L8;
     case 4: goto L7;
     case 5: goto L6;
     case 6: goto L5;
     case 7: goto L4;
     case 8: goto L3;
     case 9: goto L2;
-    default: goto L15;
+    default: goto L10;
     }
-L15:;
+L10:;
     l2 = 0xffffffffffffffffull;
-    switch ((uint32_t)(((uint64_t)l7) & 255ull)) {
+    switch ((uint32_t)(((uint64_t)l10) & 255ull)) {
     case 1: goto L16;
     case 2: goto L17;
     default: goto L1;
@@ -5247,12 +5216,12 @@ L17:;
     l2 = 0xfffffffffffffffeull;
     goto L1;
 L16:;
-    l2 = 0xfffffffffffffff6ull - (((uint64_t)l6) & 255ull);
+    l2 = 0xfffffffffffffff6ull - (((uint64_t)l7) & 255ull);
     goto L1;
-L14:;
+L9:;
     l2 = 0xfffffffffffffffcull;
     goto L1;
-L13:;
+L8:;
     l2 = 0xfffffffffffffffbull;
     goto L1;
 L7:;
@@ -5271,13 +5240,13 @@ L3:;
     l2 = 0xffffffffffffffe1ull;
     goto L1;
 L2:;
-    l2 = load64(DATA(208) + ((((uint64_t)l7) & 255ull) << 3));
+    l2 = load64(DATA(208) + ((((uint64_t)l10) & 255ull) << 3));
 L1:;
     return l2;
 }
 
 /* rattle::export hound_beginning */
-static uint32_t f35_hound_beginning(uint64_t sp, uint64_t l0, uint32_t l1, uint64_t l2) {
+static uint32_t f34_hound_beginning(uint64_t sp, uint64_t l0, uint32_t l1, uint64_t l2) {
     uint32_t l4 = 0, l5 = 0, l6 = 0, l7 = 0, l8 = 0, l9 = 0, l10 = 0;
     uint64_t l3 = 0, l11 = 0, l12 = 0;
     l3 = sp - 144ull;
@@ -5405,27 +5374,27 @@ L6:;
 }
 
 /* rattle::export hound_container_16 */
-static uint64_t f37_hound_container_16(uint32_t l0) {
+static uint64_t f36_hound_container_16(uint32_t l0) {
     return (l0 + 32768u) < 0x10000u ? ((uint64_t)(l0 & 65535u)) : 0xfffffffffffffffcull;
 }
 
 /* rattle::export hound_container_24 */
-static uint64_t f39_hound_container_24(uint32_t l0) {
+static uint64_t f38_hound_container_24(uint32_t l0) {
     return (l0 + 0x800000u) < 0x1000000u ? ((uint64_t)(l0 & 0xffffffu)) : 0xfffffffffffffffcull;
 }
 
 /* rattle::export hound_container_32 */
-static uint64_t f41_hound_container_32(uint32_t l0) {
+static uint64_t f40_hound_container_32(uint32_t l0) {
     return (uint64_t)l0;
 }
 
 /* rattle::export hound_container_8 */
-static uint64_t f43_hound_container_8(uint32_t l0) {
+static uint64_t f42_hound_container_8(uint32_t l0) {
     return (l0 + 128u) < 256u ? ((uint64_t)((l0 & 255u) ^ 128u)) : 0xfffffffffffffffcull;
 }
 
 /* rattle::export hound_decode_f32 */
-static uint64_t f45_hound_decode_f32(uint64_t sp, uint64_t l0, uint64_t l1, uint64_t l2, uint64_t l3, uint64_t l4) {
+static uint64_t f44_hound_decode_f32(uint64_t sp, uint64_t l0, uint64_t l1, uint64_t l2, uint64_t l3, uint64_t l4) {
     uint32_t l6 = 0, l7 = 0, l8 = 0, l9 = 0, l10 = 0;
     uint64_t l5 = 0, t1;
     l5 = sp - 16ull;
@@ -5467,7 +5436,7 @@ L1:;
 }
 
 /* rattle::export hound_decode_i16 */
-static uint64_t f47_hound_decode_i16(uint64_t sp, uint64_t l0, uint64_t l1, uint64_t l2, uint64_t l3, uint64_t l4) {
+static uint64_t f46_hound_decode_i16(uint64_t sp, uint64_t l0, uint64_t l1, uint64_t l2, uint64_t l3, uint64_t l4) {
     uint32_t l6 = 0, l7 = 0, l8 = 0, l9 = 0, l10 = 0;
     uint64_t l5 = 0, t1;
     l5 = sp - 16ull;
@@ -5510,7 +5479,7 @@ L1:;
 }
 
 /* rattle::export hound_decode_i32 */
-static uint64_t f49_hound_decode_i32(uint64_t sp, uint64_t l0, uint64_t l1, uint64_t l2, uint64_t l3, uint64_t l4) {
+static uint64_t f48_hound_decode_i32(uint64_t sp, uint64_t l0, uint64_t l1, uint64_t l2, uint64_t l3, uint64_t l4) {
     uint32_t l6 = 0, l7 = 0, l8 = 0, l9 = 0, l10 = 0;
     uint64_t l5 = 0, t1;
     l5 = sp - 16ull;
@@ -5555,7 +5524,7 @@ L1:;
 }
 
 /* rattle::export hound_decode_i8 */
-static uint64_t f51_hound_decode_i8(uint64_t l0, uint64_t l1, uint64_t l2, uint64_t l3, uint64_t l4) {
+static uint64_t f50_hound_decode_i8(uint64_t l0, uint64_t l1, uint64_t l2, uint64_t l3, uint64_t l4) {
     uint32_t l5 = 0, l6 = 0, l7 = 0;
     uint64_t l8 = 0, l9 = 0, l10 = 0, l11 = 0, l12 = 0, l13 = 0, l14 = 0;
     l5 = load16(l0 + 10);
@@ -5611,7 +5580,7 @@ L5:;
 }
 
 /* rattle::export hound_dither_f32 */
-static uint64_t f53_hound_dither_f32(uint64_t sp, uint64_t l0, uint64_t l1, uint64_t l2, uint64_t l3, uint64_t l4, uint64_t l5, uint64_t l6) {
+static uint64_t f52_hound_dither_f32(uint64_t sp, uint64_t l0, uint64_t l1, uint64_t l2, uint64_t l3, uint64_t l4, uint64_t l5, uint64_t l6) {
     uint32_t l9 = 0, l10 = 0, l11 = 0, l12 = 0, t1, t2, t3, t4, t5, t6, t7, t8, t9, t10;
     uint64_t l7 = 0, l8 = 0, l13 = 0;
     float l19 = 0, l20 = 0;
@@ -5869,7 +5838,7 @@ L3:;
 }
 
 /* rattle::export hound_dither_f64 */
-static uint64_t f55_hound_dither_f64(uint64_t sp, uint64_t l0, uint64_t l1, uint64_t l2, uint64_t l3, uint64_t l4, uint64_t l5, uint64_t l6) {
+static uint64_t f54_hound_dither_f64(uint64_t sp, uint64_t l0, uint64_t l1, uint64_t l2, uint64_t l3, uint64_t l4, uint64_t l5, uint64_t l6) {
     uint32_t l9 = 0, l10 = 0, l11 = 0, l12 = 0, t1, t2, t3, t4, t5;
     uint64_t l7 = 0, l8 = 0, l13 = 0;
     double l14 = 0, l15 = 0, l16 = 0, l17 = 0, l18 = 0, l19 = 0;
@@ -6076,7 +6045,7 @@ L3:;
 }
 
 /* rattle::export hound_encode_f32 */
-static uint64_t f57_hound_encode_f32(uint64_t l0, uint64_t l1, uint64_t l2, uint64_t l3, uint64_t l4) {
+static uint64_t f56_hound_encode_f32(uint64_t l0, uint64_t l1, uint64_t l2, uint64_t l3, uint64_t l4) {
     uint32_t l5 = 0, l6 = 0, l7 = 0;
     uint64_t l8 = 0, l9 = 0, l10 = 0, l11 = 0, l12 = 0, l13 = 0, l14 = 0, l15 = 0;
     l5 = load16(l0 + 10);
@@ -6137,7 +6106,7 @@ L4:;
 }
 
 /* rattle::export hound_encode_i16 */
-static uint64_t f59_hound_encode_i16(uint64_t sp, uint64_t l0, uint64_t l1, uint64_t l2, uint64_t l3, uint64_t l4) {
+static uint64_t f58_hound_encode_i16(uint64_t sp, uint64_t l0, uint64_t l1, uint64_t l2, uint64_t l3, uint64_t l4) {
     uint32_t l6 = 0, l7 = 0, l8 = 0, l9 = 0, l10 = 0, l16 = 0;
     uint64_t l5 = 0, l11 = 0, l12 = 0, l13 = 0, l14 = 0, l15 = 0;
     l5 = sp - 32ull;
@@ -6437,7 +6406,7 @@ L1:;
 }
 
 /* rattle::export hound_encode_i32 */
-static uint64_t f61_hound_encode_i32(uint64_t sp, uint64_t l0, uint64_t l1, uint64_t l2, uint64_t l3, uint64_t l4) {
+static uint64_t f60_hound_encode_i32(uint64_t sp, uint64_t l0, uint64_t l1, uint64_t l2, uint64_t l3, uint64_t l4) {
     uint32_t l8 = 0, l9 = 0, l10 = 0, l11 = 0, l12 = 0, l20 = 0;
     uint64_t l5 = 0, l6 = 0, l7 = 0, l13 = 0, l14 = 0, l15 = 0, l16 = 0, l17 = 0, l18 = 0, l19 = 0;
     l5 = sp - 32ull;
@@ -6472,24 +6441,24 @@ L4:;
     l0 = l3 + l14;
     l10 = l11 - 8u;
     switch ((uint32_t)(((uint64_t)((l10 << 13) | ((l10 & 65528u) >> 3))) & 65535ull)) {
-    case 0: goto L11;
-    case 1: goto L14;
-    case 2: goto L13;
-    case 3: goto L12;
+    case 0: goto L10;
+    case 1: goto L13;
+    case 2: goto L12;
+    case 3: goto L11;
     default: goto L9;
     }
-L14:;
+L13:;
     if (l9 != 2u) goto L9;
     if (l2 == 0) goto L8;
     l3 = 0ull;
     l4 = 0ull;
-    if (l2 == 1ull) goto L15;
+    if (l2 == 1ull) goto L14;
     l15 = l2 & 1ull;
     l16 = l2 & 0xfffffffffffffffeull;
     l3 = 0ull;
     l1 = l7;
     l4 = 0ull;
-L16:;
+L15:;
     l6 = l0 + l3;
     l9 = load32(l1);
     store16(l6, (l9 + 32768u) < 0x10000u ? l9 : 0u);
@@ -6498,17 +6467,17 @@ L16:;
     l1 = l1 + 8ull;
     l3 = l3 + 4ull;
     l4 = l4 + 2ull;
-    if (l16 != l4) goto L16;
+    if (l16 != l4) goto L15;
     if (l15 == 0) goto L8;
-L15:;
+L14:;
     l9 = load32(l7 + (l4 << 2));
     store16(l0 + l3, (l9 + 32768u) < 0x10000u ? l9 : 0u);
     l0 = l2 * l13;
     goto L1;
-L13:;
+L12:;
     switch (l9 - 3u) {
     case 0: goto L17;
-    case 1: goto L10;
+    case 1: goto L16;
     default: goto L9;
     }
 L17:;
@@ -6544,65 +6513,10 @@ L18:;
     store8(l0 + 2ull, l9 >> 16);
     l0 = l2 * l13;
     goto L1;
-L12:;
-    if (l9 != 4u) goto L9;
-    if (l2 == 0) goto L8;
-    l17 = l2 & 3ull;
-    l4 = 0ull;
-    l18 = 0ull;
-    if ((l2 - 1ull) < 3ull) goto L20;
-    l19 = l2 & 0xfffffffffffffffcull;
-    l4 = 0ull;
-    l18 = 0ull;
-L21:;
-    l16 = l0 + l4;
-    l15 = l7 + l4;
-    store32(l16, load32(l15));
-    store32(l16 + 4ull, load32(l15 + 4ull));
-    store32(l16 + 8ull, load32(l15 + 8ull));
-    store32(l16 + 12ull, load32(l15 + 12ull));
-    l4 = l4 + 16ull;
-    l18 = l18 + 4ull;
-    if (l19 != l18) goto L21;
-    if (l17 == 0) goto L8;
-L20:;
-    l0 = l3 + (l14 + l4);
-    l7 = l1 + (l6 + (l18 << 2));
-L22:;
-    store32(l0, load32(l7));
-    l7 = l7 + 4ull;
-    l0 = l0 + 4ull;
-    l17 = l17 - 1ull;
-    if (!(l17 == 0)) goto L22;
-    goto L8;
-L11:;
-    if (l9 != 1u) goto L9;
-    if (l2 == 0) goto L8;
-    l3 = 0ull;
-    if (l2 == 1ull) goto L23;
-    l16 = l2 & 1ull;
-    l6 = l2 & 0xfffffffffffffffeull;
-    l3 = 0ull;
-    l1 = l7;
-L24:;
-    l4 = l0 + l3;
-    l9 = load32(l1);
-    store8(l4, (l9 + 128u) < 256u ? (l9 ^ 128u) : 0u);
-    l9 = load32(l1 + 4ull);
-    store8(l4 + 1ull, (l9 + 128u) < 256u ? (l9 ^ 128u) : 0u);
-    l1 = l1 + 8ull;
-    l3 = l3 + 2ull;
-    if (l6 != l3) goto L24;
-    if (l16 == 0) goto L8;
-L23:;
-    l9 = load32(l7 + (l3 << 2));
-    store8(l0 + l3, (l9 + 128u) < 256u ? (l9 ^ 128u) : 0u);
-    l0 = l2 * l13;
-    goto L1;
-L10:;
+L16:;
     l1 = l2;
     if (l2 == 0) goto L8;
-L25:;
+L20:;
     l9 = load32(l7);
     store8(l0 + 3ull, 0u);
     l9 = (l9 + 0x800000u) < 0x1000000u ? l9 : 0u;
@@ -6611,8 +6525,63 @@ L25:;
     l7 = l7 + 4ull;
     l0 = l0 + 4ull;
     l1 = l1 - 1ull;
-    if (!(l1 == 0)) goto L25;
+    if (!(l1 == 0)) goto L20;
     goto L8;
+L11:;
+    if (l9 != 4u) goto L9;
+    if (l2 == 0) goto L8;
+    l17 = l2 & 3ull;
+    l4 = 0ull;
+    l18 = 0ull;
+    if ((l2 - 1ull) < 3ull) goto L21;
+    l19 = l2 & 0xfffffffffffffffcull;
+    l4 = 0ull;
+    l18 = 0ull;
+L22:;
+    l16 = l0 + l4;
+    l15 = l7 + l4;
+    store32(l16, load32(l15));
+    store32(l16 + 4ull, load32(l15 + 4ull));
+    store32(l16 + 8ull, load32(l15 + 8ull));
+    store32(l16 + 12ull, load32(l15 + 12ull));
+    l4 = l4 + 16ull;
+    l18 = l18 + 4ull;
+    if (l19 != l18) goto L22;
+    if (l17 == 0) goto L8;
+L21:;
+    l0 = l3 + (l14 + l4);
+    l7 = l1 + (l6 + (l18 << 2));
+L23:;
+    store32(l0, load32(l7));
+    l7 = l7 + 4ull;
+    l0 = l0 + 4ull;
+    l17 = l17 - 1ull;
+    if (!(l17 == 0)) goto L23;
+    goto L8;
+L10:;
+    if (l9 != 1u) goto L9;
+    if (l2 == 0) goto L8;
+    l3 = 0ull;
+    if (l2 == 1ull) goto L24;
+    l16 = l2 & 1ull;
+    l6 = l2 & 0xfffffffffffffffeull;
+    l3 = 0ull;
+    l1 = l7;
+L25:;
+    l4 = l0 + l3;
+    l9 = load32(l1);
+    store8(l4, (l9 + 128u) < 256u ? (l9 ^ 128u) : 0u);
+    l9 = load32(l1 + 4ull);
+    store8(l4 + 1ull, (l9 + 128u) < 256u ? (l9 ^ 128u) : 0u);
+    l1 = l1 + 8ull;
+    l3 = l3 + 2ull;
+    if (l6 != l3) goto L25;
+    if (l16 == 0) goto L8;
+L24:;
+    l9 = load32(l7 + (l3 << 2));
+    store8(l0 + l3, (l9 + 128u) < 256u ? (l9 ^ 128u) : 0u);
+    l0 = l2 * l13;
+    goto L1;
 L9:;
     if (l2 == 0) goto L8;
     l12 = (uint32_t)((l11 & 65535u) == 16u) & (uint32_t)(l9 == 2u);
@@ -6732,7 +6701,7 @@ L1:;
 }
 
 /* rattle::export hound_encode_i8 */
-static uint64_t f63_hound_encode_i8(uint64_t sp, uint64_t l0, uint64_t l1, uint64_t l2, uint64_t l3, uint64_t l4) {
+static uint64_t f62_hound_encode_i8(uint64_t sp, uint64_t l0, uint64_t l1, uint64_t l2, uint64_t l3, uint64_t l4) {
     uint32_t l7 = 0, l8 = 0, l9 = 0, l10 = 0, l11 = 0, l12 = 0, l13 = 0, l14 = 0;
     uint64_t l5 = 0, l6 = 0, l15 = 0, l16 = 0, l17 = 0, l18 = 0, l19 = 0, l20 = 0;
     l5 = sp - 16ull;
@@ -7082,7 +7051,7 @@ L1:;
 }
 
 /* rattle::export hound_f32_to_f64 */
-static uint64_t f65_hound_f32_to_f64(uint64_t l0, uint64_t l1, uint64_t l2, uint64_t l3) {
+static uint64_t f64_hound_f32_to_f64(uint64_t l0, uint64_t l1, uint64_t l2, uint64_t l3) {
     uint64_t l4 = 0, l5 = 0, l6 = 0, l7 = 0;
     float l8 = 0;
     double t1, t2, t3;
@@ -7123,7 +7092,7 @@ L4:;
 }
 
 /* rattle::export hound_f64_to_f32 */
-static uint64_t f67_hound_f64_to_f32(uint64_t l0, uint64_t l1, uint64_t l2, uint64_t l3, uint64_t l4) {
+static uint64_t f66_hound_f64_to_f32(uint64_t l0, uint64_t l1, uint64_t l2, uint64_t l3, uint64_t l4) {
     uint64_t l5 = 0, l8 = 0, l12 = 0, l13 = 0, l14 = 0, l15 = 0, l16 = 0, l17 = 0;
     float l6 = 0, l11 = 0;
     double l7 = 0, l9 = 0, l10 = 0;
@@ -7201,7 +7170,7 @@ L2:;
 }
 
 /* rattle::export hound_find_damage */
-static uint32_t f69_hound_find_damage(uint64_t sp, uint64_t l0, uint64_t l1, uint64_t l2) {
+static uint32_t f68_hound_find_damage(uint64_t sp, uint64_t l0, uint64_t l1, uint64_t l2) {
     uint32_t l4 = 0, l5 = 0, l6 = 0, l7 = 0, l8 = 0, l9 = 0, l10 = 0, l11 = 0, l12 = 0, l13 = 0;
     uint64_t l3 = 0;
     l3 = sp - 80ull;
@@ -7241,7 +7210,7 @@ L4:;
     store16(l2 + 6, l9);
     store16(l2 + 4, l5);
     store32(l2, l10);
-    store16(l2 + 10, (uint32_t)((l8 & 255u) != 1u));
+    store16(l2 + 10, (uint32_t)((l8 & 255u) == 0));
     l6 = 0u;
     goto L1;
 L3:;
@@ -7275,7 +7244,7 @@ L1:;
 }
 
 /* rattle::export hound_from_f32 */
-static uint64_t f71_hound_from_f32(uint64_t sp, uint64_t l0, uint64_t l1, uint64_t l2, uint64_t l3, uint64_t l4, uint64_t l5) {
+static uint64_t f70_hound_from_f32(uint64_t sp, uint64_t l0, uint64_t l1, uint64_t l2, uint64_t l3, uint64_t l4, uint64_t l5) {
     uint32_t l8 = 0, l9 = 0, l10 = 0, l11 = 0, t1, t2, t3, t4, t5, t6, t7, t8, t9, t10;
     uint64_t l6 = 0, l7 = 0, l12 = 0;
     float l17 = 0, l18 = 0;
@@ -7512,7 +7481,7 @@ L3:;
 }
 
 /* rattle::export hound_from_f64 */
-static uint64_t f73_hound_from_f64(uint64_t sp, uint64_t l0, uint64_t l1, uint64_t l2, uint64_t l3, uint64_t l4, uint64_t l5) {
+static uint64_t f72_hound_from_f64(uint64_t sp, uint64_t l0, uint64_t l1, uint64_t l2, uint64_t l3, uint64_t l4, uint64_t l5) {
     uint32_t l8 = 0, l9 = 0, l10 = 0, l11 = 0, t1, t2, t3, t4, t5;
     uint64_t l6 = 0, l7 = 0, l12 = 0;
     double l13 = 0, l14 = 0, l15 = 0, l16 = 0, l17 = 0;
@@ -7698,7 +7667,7 @@ L3:;
 }
 
 /* rattle::export hound_guess_data */
-static uint64_t f75_hound_guess_data(uint64_t l0, uint64_t l1) {
+static uint64_t f74_hound_guess_data(uint64_t l0, uint64_t l1) {
     uint64_t l2 = 0, l3 = 0;
     l2 = 0xfffffffffffffff4ull;
     l3 = l1 - 7ull;
@@ -7719,7 +7688,7 @@ L1:;
 }
 
 /* rattle::export hound_header */
-static uint64_t f77_hound_header(uint64_t sp, uint64_t l0, uint64_t l1, uint64_t l2, uint64_t l3) {
+static uint64_t f76_hound_header(uint64_t sp, uint64_t l0, uint64_t l1, uint64_t l2, uint64_t l3) {
     uint32_t l6 = 0, l7 = 0, l8 = 0, l9 = 0, l10 = 0, l11 = 0;
     uint64_t l4 = 0, l5 = 0, l12 = 0;
     l4 = sp - 96ull;
@@ -7790,8 +7759,8 @@ L6:;
 }
 
 /* rattle::export hound_info */
-static uint32_t f79_hound_info(uint64_t sp, uint64_t l0, uint64_t l1, uint64_t l2) {
-    uint32_t l4 = 0, l5 = 0;
+static uint32_t f78_hound_info(uint64_t sp, uint64_t l0, uint64_t l1, uint64_t l2) {
+    uint32_t l4 = 0;
     uint64_t l3 = 0;
     l3 = sp - 48ull;
     sp = l3;
@@ -7809,67 +7778,28 @@ static uint32_t f79_hound_info(uint64_t sp, uint64_t l0, uint64_t l1, uint64_t l
     store16(l2 + 6, load16(l3 + 16));
     store16(l2 + 4, load16(l3 + 8));
     store32(l2, load32(l3 + 12));
-    store16(l2 + 10, (uint32_t)(load8(l3 + 18) != 1u));
+    store16(l2 + 10, (uint32_t)(load8(l3 + 18) == 0));
     l4 = 0u;
     goto L1;
 L4:;
-    l5 = load8(l3 + 2);
-    l4 = 0xfffffffdu;
-    switch ((uint32_t)((uint64_t)load8(l3 + 1))) {
-    case 1: goto L1;
-    case 2: goto L11;
-    case 3: goto L10;
-    case 4: goto L9;
-    case 5: goto L8;
-    case 6: goto L7;
-    case 7: goto L6;
-    case 8: goto L5;
-    case 9: goto L2;
-    default: goto L12;
-    }
-L12:;
     l4 = 0xffffffffu;
-    switch (l5) {
-    case 1: goto L13;
-    case 2: goto L14;
+    switch ((uint32_t)((uint64_t)load8(l3 + 1))) {
+    case 1: goto L5;
+    case 2: goto L2;
     default: goto L1;
     }
-L14:;
-    l4 = 0xfffffffeu;
-    goto L1;
-L13:;
-    l4 = 0xfffffff6u - load8(l3 + 3);
-    goto L1;
-L11:;
-    l4 = 0xfffffffcu;
-    goto L1;
-L10:;
-    l4 = 0xfffffffbu;
-    goto L1;
-L9:;
-    l4 = 0xfffffffau;
-    goto L1;
-L8:;
-    l4 = 0xfffffff9u;
-    goto L1;
-L7:;
-    l4 = 0xfffffff8u;
-    goto L1;
-L6:;
-    l4 = 0xfffffff7u;
-    goto L1;
 L5:;
-    l4 = 0xffffffe1u;
+    l4 = 0xfffffff6u - load8(l3 + 2);
     goto L1;
     TRAP();
 L2:;
-    l4 = load32(DATA(144) + (((uint64_t)l5) << 2));
+    l4 = 0xfffffffeu;
 L1:;
     return l4;
 }
 
 /* rattle::export hound_kind */
-static uint32_t f81_hound_kind(uint64_t l0, uint64_t l1) {
+static uint32_t f80_hound_kind(uint64_t l0, uint64_t l1) {
     uint32_t l2 = 0, l3 = 0, l4 = 0, l5 = 0, l6 = 0, l7 = 0;
     uint64_t l8 = 0, l9 = 0, l10 = 0;
     l2 = 0x10000u;
@@ -7959,7 +7889,7 @@ L2:;
 }
 
 /* rattle::export hound_read_f32 */
-static uint64_t f83_hound_read_f32(uint64_t sp, uint64_t l0, uint64_t l1, uint64_t l2, uint64_t l3, uint64_t l4) {
+static uint64_t f82_hound_read_f32(uint64_t sp, uint64_t l0, uint64_t l1, uint64_t l2, uint64_t l3, uint64_t l4) {
     uint32_t l7 = 0, l8 = 0;
     uint64_t l5 = 0, l6 = 0, l9 = 0, l10 = 0, t1;
     l5 = sp - 48ull;
@@ -7972,86 +7902,52 @@ static uint64_t f83_hound_read_f32(uint64_t sp, uint64_t l0, uint64_t l1, uint64
     store64(l5, 0ull);
     l6 = l0 + (l0 == 0 ? 4096ull : 0ull);
     f3_find_samples(sp, l5, l6, l1);
-    if (load8(l5) != 0) goto L11;
+    if (load8(l5) != 0) goto L6;
     l7 = load8(l5 + 18);
-    if (l7 != 0) goto L13;
+    if (l7 != 0) goto L8;
     l8 = load16(l5 + 20) & 65535u;
-    if (l8 < 5u) goto L12;
-L13:;
-    if (l7 == 0) goto L10;
-    l0 = 0xfffffffffffffffdull;
+    if (l8 < 5u) goto L7;
+L8:;
+    l0 = l7 != 0 ? 0xfffffffffffffffdull : 0xfffffffffffffffcull;
     goto L1;
-L12:;
-    if (l8 != 4u) goto L9;
-    if ((load16(l5 + 16) & 65535u) != 32u) goto L9;
+L7:;
+    if (l8 != 4u) goto L5;
+    if ((load16(l5 + 16) & 65535u) != 32u) goto L5;
     l0 = 0ull;
     if (l4 == 0) goto L1;
     l9 = (uint64_t)load32(l5 + 40);
     if (l2 >= l9) goto L1;
     l10 = load64(l5 + 32);
     l0 = (l1 - l10) >> 2;
-    if (l0 <= l2) goto L8;
+    if (l0 <= l2) goto L4;
     t1 = f15_decode_front(l5 + 8ull, (l6 + l10) + (l2 << 2), ((l0 < l9 ? l0 : l9) - l2) << 2, l3 + (l3 == 0 ? 4096ull : 0ull), l4);
     l0 = t1;
     goto L1;
-L11:;
-    l7 = load8(l5 + 2);
-    l0 = 0xfffffffffffffffdull;
-    switch ((uint32_t)((uint64_t)load8(l5 + 1))) {
-    case 1: goto L1;
-    case 2: goto L10;
-    case 3: goto L9;
-    case 4: goto L8;
-    case 5: goto L7;
-    case 6: goto L6;
-    case 7: goto L5;
-    case 8: goto L4;
-    case 9: goto L2;
-    default: goto L14;
-    }
-L14:;
+L6:;
     l0 = 0xffffffffffffffffull;
-    switch (l7) {
-    case 1: goto L15;
-    case 2: goto L16;
+    switch ((uint32_t)((uint64_t)load8(l5 + 1))) {
+    case 1: goto L9;
+    case 2: goto L2;
     default: goto L1;
     }
-L16:;
-    l0 = 0xfffffffffffffffeull;
-    goto L1;
-L15:;
-    l0 = 0xfffffffffffffff6ull - ((uint64_t)load8(l5 + 3));
-    goto L1;
-L10:;
-    l0 = 0xfffffffffffffffcull;
-    goto L1;
 L9:;
-    l0 = 0xfffffffffffffffbull;
-    goto L1;
-L8:;
-    l0 = 0xfffffffffffffffaull;
-    goto L1;
-L7:;
-    l0 = 0xfffffffffffffff9ull;
-    goto L1;
-L6:;
-    l0 = 0xfffffffffffffff8ull;
+    l0 = 0xfffffffffffffff6ull - ((uint64_t)load8(l5 + 2));
     goto L1;
 L5:;
-    l0 = 0xfffffffffffffff7ull;
+    l0 = 0xfffffffffffffffbull;
     goto L1;
 L4:;
-    l0 = 0xffffffffffffffe1ull;
+    l0 = 0xfffffffffffffffaull;
     goto L1;
     TRAP();
 L2:;
-    l0 = load64(DATA(208) + (((uint64_t)l7) << 3));
+    l0 = 0xfffffffffffffffeull;
 L1:;
     return l0;
 }
 
 /* rattle::export hound_read_i16 */
-static uint64_t f85_hound_read_i16(uint64_t sp, uint64_t l0, uint64_t l1, uint64_t l2, uint64_t l3, uint64_t l4) {
+static uint64_t f84_hound_read_i16(uint64_t sp, uint64_t l0, uint64_t l1, uint64_t l2, uint64_t l3, uint64_t l4) {
     uint32_t l7 = 0, l8 = 0, l9 = 0;
     uint64_t l5 = 0, l6 = 0, l10 = 0, l11 = 0, t1;
     l5 = sp - 48ull;
@@ -8064,90 +7960,56 @@ static uint64_t f85_hound_read_i16(uint64_t sp, uint64_t l0, uint64_t l1, uint64
     store64(l5, 0ull);
     l6 = l0 + (l0 == 0 ? 4096ull : 0ull);
     f3_find_samples(sp, l5, l6, l1);
-    if (load8(l5) != 0) goto L11;
+    if (load8(l5) != 0) goto L6;
     l7 = (uint32_t)(load8(l5 + 18) != 1u);
-    if (l7 != 0) goto L13;
+    if (l7 != 0) goto L8;
     l8 = load16(l5 + 20);
     l9 = l8 & 65535u;
-    if (l9 < 3u) goto L12;
-L13:;
-    if (l7 == 0) goto L10;
-    l0 = 0xfffffffffffffffdull;
+    if (l9 < 3u) goto L7;
+L8:;
+    l0 = l7 != 0 ? 0xfffffffffffffffdull : 0xfffffffffffffffcull;
     goto L1;
-L12:;
+L7:;
     l10 = (uint64_t)load32(l5 + 40);
     l11 = load64(l5 + 32);
     l7 = load16(l5 + 16);
-    if (((uint32_t)(l9 == 1u) & (uint32_t)(l7 == 8u)) != 0) goto L14;
-    if (((uint32_t)(l9 == 2u) & (uint32_t)(l7 == 16u)) == 0) goto L9;
-L14:;
+    if (((uint32_t)(l9 == 1u) & (uint32_t)(l7 == 8u)) != 0) goto L9;
+    if (((uint32_t)(l9 == 2u) & (uint32_t)(l7 == 16u)) == 0) goto L5;
+L9:;
     l0 = 0ull;
     if (l4 == 0) goto L1;
     if (l2 >= l10) goto L1;
     l0 = ((uint64_t)l8) & 65535ull;
     l1 = div64((l1 - l11), l0);
-    if (l1 <= l2) goto L8;
+    if (l1 <= l2) goto L4;
     t1 = f16_decode_front(l5 + 8ull, (l6 + l11) + (l2 * l0), ((l1 < l10 ? l1 : l10) - l2) * l0, l3 + (l3 == 0 ? 4096ull : 0ull), l4);
     l0 = t1;
     goto L1;
-L11:;
-    l9 = load8(l5 + 2);
-    l0 = 0xfffffffffffffffdull;
-    switch ((uint32_t)((uint64_t)load8(l5 + 1))) {
-    case 1: goto L1;
-    case 2: goto L10;
-    case 3: goto L9;
-    case 4: goto L8;
-    case 5: goto L7;
-    case 6: goto L6;
-    case 7: goto L5;
-    case 8: goto L4;
-    case 9: goto L2;
-    default: goto L15;
-    }
-L15:;
+L6:;
     l0 = 0xffffffffffffffffull;
-    switch (l9) {
-    case 1: goto L16;
-    case 2: goto L17;
+    switch ((uint32_t)((uint64_t)load8(l5 + 1))) {
+    case 1: goto L10;
+    case 2: goto L2;
     default: goto L1;
     }
-L17:;
-    l0 = 0xfffffffffffffffeull;
-    goto L1;
-L16:;
-    l0 = 0xfffffffffffffff6ull - ((uint64_t)load8(l5 + 3));
-    goto L1;
 L10:;
-    l0 = 0xfffffffffffffffcull;
-    goto L1;
-L9:;
-    l0 = 0xfffffffffffffffbull;
-    goto L1;
-L8:;
-    l0 = 0xfffffffffffffffaull;
-    goto L1;
-L7:;
-    l0 = 0xfffffffffffffff9ull;
-    goto L1;
-L6:;
-    l0 = 0xfffffffffffffff8ull;
+    l0 = 0xfffffffffffffff6ull - ((uint64_t)load8(l5 + 2));
     goto L1;
 L5:;
-    l0 = 0xfffffffffffffff7ull;
+    l0 = 0xfffffffffffffffbull;
     goto L1;
 L4:;
-    l0 = 0xffffffffffffffe1ull;
+    l0 = 0xfffffffffffffffaull;
     goto L1;
     TRAP();
 L2:;
-    l0 = load64(DATA(208) + (((uint64_t)l9) << 3));
+    l0 = 0xfffffffffffffffeull;
 L1:;
     return l0;
 }
 
 /* rattle::export hound_read_i32 */
-static uint64_t f87_hound_read_i32(uint64_t sp, uint64_t l0, uint64_t l1, uint64_t l2, uint64_t l3, uint64_t l4) {
+static uint64_t f86_hound_read_i32(uint64_t sp, uint64_t l0, uint64_t l1, uint64_t l2, uint64_t l3, uint64_t l4) {
     uint32_t l7 = 0, l8 = 0, l9 = 0, l12 = 0;
     uint64_t l5 = 0, l6 = 0, l10 = 0, l11 = 0, t1;
     l5 = sp - 48ull;
@@ -8160,94 +8022,60 @@ static uint64_t f87_hound_read_i32(uint64_t sp, uint64_t l0, uint64_t l1, uint64
     store64(l5, 0ull);
     l6 = l0 + (l0 == 0 ? 4096ull : 0ull);
     f3_find_samples(sp, l5, l6, l1);
-    if (load8(l5) != 0) goto L11;
+    if (load8(l5) != 0) goto L6;
     l7 = (uint32_t)(load8(l5 + 18) != 1u);
-    if (l7 != 0) goto L12;
+    if (l7 != 0) goto L2;
     l8 = load16(l5 + 20);
     l9 = l8 & 65535u;
-    if (l9 > 4u) goto L12;
+    if (l9 > 4u) goto L2;
     l10 = (uint64_t)load32(l5 + 40);
     l11 = load64(l5 + 32);
     l12 = load16(l5 + 16);
     l7 = l12 & 65535u;
-    if (((uint32_t)(l7 == 8u) & (uint32_t)(l9 == 1u)) != 0) goto L13;
-    if (((uint32_t)(l7 == 16u) & (uint32_t)(l9 == 2u)) != 0) goto L13;
+    if (((uint32_t)(l7 == 8u) & (uint32_t)(l9 == 1u)) != 0) goto L7;
+    if (((uint32_t)(l7 == 16u) & (uint32_t)(l9 == 2u)) != 0) goto L7;
     l9 = l12 & 65535u;
     l7 = l8 & 65535u;
-    if (((uint32_t)(l9 == 24u) & (uint32_t)(l7 > 2u)) != 0) goto L13;
-    if (((uint32_t)(l9 == 32u) & (uint32_t)(l7 == 4u)) == 0) goto L9;
-L13:;
+    if (((uint32_t)(l9 == 24u) & (uint32_t)(l7 > 2u)) != 0) goto L7;
+    if (((uint32_t)(l9 == 32u) & (uint32_t)(l7 == 4u)) == 0) goto L5;
+L7:;
     l0 = 0ull;
     if (l4 == 0) goto L1;
     if (l2 >= l10) goto L1;
     l0 = ((uint64_t)l8) & 65535ull;
     l1 = div64((l1 - l11), l0);
-    if (l1 <= l2) goto L8;
+    if (l1 <= l2) goto L4;
     t1 = f17_decode_front(l5 + 8ull, (l6 + l11) + (l2 * l0), ((l1 < l10 ? l1 : l10) - l2) * l0, l3 + (l3 == 0 ? 4096ull : 0ull), l4);
     l0 = t1;
     goto L1;
-L12:;
-    if (l7 == 0) goto L10;
-    l0 = 0xfffffffffffffffdull;
-    goto L1;
-L11:;
-    l9 = load8(l5 + 2);
-    l0 = 0xfffffffffffffffdull;
-    switch ((uint32_t)((uint64_t)load8(l5 + 1))) {
-    case 1: goto L1;
-    case 2: goto L10;
-    case 3: goto L9;
-    case 4: goto L8;
-    case 5: goto L7;
-    case 6: goto L6;
-    case 7: goto L5;
-    case 8: goto L4;
-    case 9: goto L2;
-    default: goto L14;
-    }
-L14:;
+L6:;
     l0 = 0xffffffffffffffffull;
-    switch (l9) {
-    case 1: goto L15;
-    case 2: goto L16;
+    switch ((uint32_t)((uint64_t)load8(l5 + 1))) {
+    case 1: goto L8;
+    case 2: goto L9;
     default: goto L1;
     }
-L16:;
+L9:;
     l0 = 0xfffffffffffffffeull;
     goto L1;
-L15:;
-    l0 = 0xfffffffffffffff6ull - ((uint64_t)load8(l5 + 3));
-    goto L1;
-L10:;
-    l0 = 0xfffffffffffffffcull;
-    goto L1;
-L9:;
-    l0 = 0xfffffffffffffffbull;
-    goto L1;
 L8:;
-    l0 = 0xfffffffffffffffaull;
-    goto L1;
-L7:;
-    l0 = 0xfffffffffffffff9ull;
-    goto L1;
-L6:;
-    l0 = 0xfffffffffffffff8ull;
+    l0 = 0xfffffffffffffff6ull - ((uint64_t)load8(l5 + 2));
     goto L1;
 L5:;
-    l0 = 0xfffffffffffffff7ull;
+    l0 = 0xfffffffffffffffbull;
     goto L1;
 L4:;
-    l0 = 0xffffffffffffffe1ull;
+    l0 = 0xfffffffffffffffaull;
     goto L1;
     TRAP();
 L2:;
-    l0 = load64(DATA(208) + (((uint64_t)l9) << 3));
+    l0 = l7 != 0 ? 0xfffffffffffffffdull : 0xfffffffffffffffcull;
 L1:;
     return l0;
 }
 
 /* rattle::export hound_recorder_begin */
-static uint32_t f89_hound_recorder_begin(uint64_t l0, uint64_t l1) {
+static uint32_t f88_hound_recorder_begin(uint64_t l0, uint64_t l1) {
     uint32_t l2 = 0, l3 = 0, l4 = 0, l5 = 0, l6 = 0, l7 = 0;
     l2 = load16(l0 + 10);
     l3 = load16(l0 + 6);
@@ -8298,7 +8126,7 @@ L6:;
 }
 
 /* rattle::export hound_recorder_checkpoint */
-static void f91_hound_recorder_checkpoint(uint64_t sp, uint64_t l0) {
+static void f90_hound_recorder_checkpoint(uint64_t sp, uint64_t l0) {
     uint32_t l2 = 0, l3 = 0, l4 = 0, l5 = 0, l6 = 0, l7 = 0, l9 = 0, l10 = 0;
     uint64_t l1 = 0, l8 = 0;
     l1 = sp - 48ull;
@@ -8384,7 +8212,7 @@ L1:;
 }
 
 /* rattle::export hound_recorder_frames_left */
-static uint64_t f93_hound_recorder_frames_left(uint64_t l0) {
+static uint64_t f92_hound_recorder_frames_left(uint64_t l0) {
     uint64_t l1 = 0, l2 = 0, l3 = 0;
     l1 = 0ull;
     l2 = load64(l0 + 56ull);
@@ -8400,16 +8228,16 @@ L2:;
 }
 
 /* rattle::export hound_recorder_next */
-static uint32_t f95_hound_recorder_next(uint64_t sp, uint64_t l0) {
+static uint32_t f94_hound_recorder_next(uint64_t sp, uint64_t l0) {
     uint32_t l2 = 0, l3 = 0, l4 = 0, l5 = 0, l6 = 0, l7 = 0, l9 = 0, l10 = 0, l12 = 0, l13 = 0, l15 = 0, l16 = 0, l17 = 0, l18 = 0, l19 = 0, l20 = 0;
     uint64_t l1 = 0, l8 = 0, l11 = 0, l14 = 0, l21 = 0, l22 = 0, l23 = 0;
-    l1 = sp - 128ull;
+    l1 = sp - 176ull;
     sp = l1;
-    store32(l1 + 40, 0u);
+    store32(l1 + 48, 0u);
+    store64(l1 + 40, 0ull);
     store64(l1 + 32, 0ull);
     store64(l1 + 24, 0ull);
     store64(l1 + 16, 0ull);
-    store64(l1 + 8, 0ull);
     l2 = load32(l0 + 72ull);
     l3 = load16(l0 + 80ull);
     l4 = load16(l0 + 78ull);
@@ -8420,300 +8248,300 @@ static uint32_t f95_hound_recorder_next(uint64_t sp, uint64_t l0) {
     l9 = 0u;
     l10 = load16(l0 + 82ull);
     switch (l10 - 1u) {
-    case 0: goto L2;
-    case 1: goto L6;
-    case 2: goto L5;
-    case 3: goto L4;
-    default: goto L3;
+    case 0: goto L8;
+    case 1: goto L12;
+    case 2: goto L11;
+    case 3: goto L10;
+    default: goto L9;
     }
-L6:;
+L12:;
     l10 = 2u;
     l9 = l2;
-    goto L2;
-L5:;
+    goto L8;
+L11:;
     l10 = 3u;
     l9 = l2;
-    goto L2;
-L4:;
+    goto L8;
+L10:;
     l10 = 4u;
     l9 = 0u;
-    goto L2;
-L3:;
+    goto L8;
+L9:;
     l9 = 0u;
     l10 = 0u;
-L2:;
-    store16(l1 + 69, 0u);
-    store16(l1 + 66, l4);
-    store16(l1 + 64, l5);
-    store32(l1 + 60, l6);
-    store32(l1 + 56, l7);
-    store64(l1 + 48, l8);
-    store8(l1 + 71, 0u);
-    store32(l1 + 81, 0u);
-    store32(l1 + 76, l9);
-    store32(l1 + 72, l10);
-    store32(l1 + 84, 0u);
-    store8(l1 + 80, (uint32_t)(load16(l0 + 84ull) != 0u));
-    l7 = 1u;
+L8:;
+    store16(l1 + 77, 0u);
+    store16(l1 + 74, l4);
+    store16(l1 + 72, l5);
+    store32(l1 + 68, l6);
+    store32(l1 + 64, l7);
+    store64(l1 + 56, l8);
+    store8(l1 + 79, 0u);
+    store32(l1 + 89, 0u);
+    store32(l1 + 84, l9);
+    store32(l1 + 80, l10);
+    store32(l1 + 92, 0u);
+    store8(l1 + 88, (uint32_t)(load16(l0 + 84ull) != 0u));
+    l6 = 1u;
     l9 = l3 & 65535u;
-    store8(l1 + 68, l9 != 0 ? (l9 == 1u ? 1u : 2u) : 0u);
+    store8(l1 + 76, l9 != 0 ? (l9 == 1u ? 1u : 2u) : 0u);
     l9 = load16(l0 + 14);
-    f23_settle(sp, l1, l1 + 48ull, load16(l0 + 12) != 0 ? (l9 == 1u ? 1u : (l9 == 2u ? 2u : 0u)) : 0u);
-    if (load8(l1) != 0) goto L17;
+    f23_settle(sp, l1 + 8ull, l1 + 56ull, load16(l0 + 12) != 0 ? (l9 == 1u ? 1u : (l9 == 2u ? 2u : 0u)) : 0u);
+    if (load8(l1 + 8) != 0) goto L14;
     l11 = 0ull;
-    l6 = load8(l1 + 68);
-    if (l6 != 2u) goto L16;
+    l3 = load8(l1 + 76);
+    if (l3 != 2u) goto L13;
     l12 = 0u;
     l13 = 7u;
-    l6 = 2u;
-    goto L15;
-L17:;
-    l13 = load8(l1 + 1);
+    goto L2;
+L14:;
+    l13 = load8(l1 + 9);
     l12 = 0u;
     l11 = 0ull;
-    l6 = load8(l1 + 68);
-    goto L15;
-L16:;
-    l7 = 1u;
+    goto L2;
+L13:;
+    l6 = 1u;
     l8 = 0ull;
-    l12 = load8(l1 + 72);
+    l12 = load8(l1 + 80);
     l9 = l12;
     l4 = l12;
     l13 = l12;
     l10 = 1u;
     switch (l12) {
-    case 1: case 2: case 3: goto L18;
-    case 4: goto L11;
-    default: goto L7;
+    case 1: case 2: case 3: goto L17;
+    case 4: goto L16;
+    default: goto L1;
     }
-L18:;
+L17:;
     l4 = 1u;
-    if (load8(l1 + 80) != 1u) goto L19;
-    l8 = (uint64_t)load32(l1 + 56);
-    l14 = l8 + load64(l1 + 48);
+    if (load8(l1 + 88) != 1u) goto L18;
+    l8 = (uint64_t)load32(l1 + 64);
+    l14 = l8 + load64(l1 + 56);
     l8 = l14 < l8 ? 0xffffffffffffffffull : l14;
-    goto L10;
-L19:;
+    goto L15;
+L18:;
     switch (l12 - 1u) {
     case 1: goto L21;
-    case 2: goto L12;
+    case 2: goto L19;
     default: goto L22;
     }
 L22:;
-    l10 = load16(l1 + 66);
-    l3 = load16(l1 + 64);
-    l9 = load32(l1 + 60);
-    l14 = (uint64_t)load32(l1 + 56);
-    l8 = load64(l1 + 48);
+    store64(l1 + 136, load64(l1 + 56));
+    store64(l1 + 144, load64(l1 + 64));
+    store64(l1 + 152, load64(l1 + 72));
+    store64(l1 + 160, load64(l1 + 80));
+    store64(l1 + 168, load64(l1 + 88));
     l11 = 0ull;
+    store64(l1 + 128, 0ull);
+    store64(l1 + 120, 0ull);
     store64(l1 + 112, 0ull);
     store64(l1 + 104, 0ull);
     store64(l1 + 96, 0ull);
-    store64(l1 + 88, 0ull);
-    l12 = 0u;
-    l13 = 0u;
-    if (l8 < 20ull) goto L24;
-    l13 = 0u;
-    if ((l3 & 65535u) == 0) goto L24;
-    l13 = 2u;
-    if (l8 > 0x100000007ull) goto L24;
-    if ((((l8 + l14) + (l14 & 1ull)) - 8ull) > 0xffffffffull) goto L24;
-    f24_effect(l1 + 88ull, l1 + 48ull, l9);
-    l7 = 1u;
-    if (load8(l1 + 88) != 1u) goto L23;
-    l12 = load32(l1 + 112);
-    l11 = load64(l1 + 104);
-    l8 = (uint64_t)load8(l1 + 96);
+    l6 = 1u;
+    f24_next_effect(l1 + 96ull, l1 + 136ull, 1u);
+    if (load8(l1 + 96) != 0) goto L24;
+    l6 = 1u;
+    if (load8(l1 + 104) != 1u) goto L23;
+    l12 = load32(l1 + 128);
+    l11 = load64(l1 + 120);
+    l8 = (uint64_t)load8(l1 + 112);
     l9 = 1u;
-    goto L13;
-L24:;
-    store64(l1 + 72, 0ull);
-    store16(l1 + 66, l10);
-    store32(l1 + 60, l9);
     goto L20;
+L24:;
+    store64(l1 + 56, load64(l1 + 136));
+    store64(l1 + 64, load64(l1 + 144));
+    store64(l1 + 72, load64(l1 + 152));
+    store64(l1 + 88, load64(l1 + 168));
+    goto L3;
 L23:;
+    store64(l1 + 80, load64(l1 + 160));
+    store64(l1 + 88, load64(l1 + 168));
+    store64(l1 + 72, load64(l1 + 152));
+    store64(l1 + 64, load64(l1 + 144));
+    store64(l1 + 56, load64(l1 + 136));
     l11 = 0ull;
-    store64(l1 + 72, 0ull);
-    store16(l1 + 66, l10);
+    store64(l1 + 80, 0ull);
     l12 = 0u;
-    store32(l1 + 60, 0u);
-    l6 = 0u;
     l8 = 0ull;
     l9 = 0u;
     l4 = 0u;
-    goto L8;
+    goto L4;
 L21:;
-    l10 = load32(l1 + 56);
-    l8 = load64(l1 + 48);
-    l9 = load32(l1 + 60);
-    l3 = load32(l1 + 76);
-    if (l6 != 0) goto L27;
-    if (l9 != 0) goto L27;
-    l14 = (uint64_t)l10;
-    goto L26;
-L27:;
-    l4 = load16(l1 + 66);
-    l5 = load16(l1 + 64);
+    l10 = load32(l1 + 84);
+    if (l3 != 0) goto L28;
+    if (load32(l1 + 68) == 0) goto L27;
+L28:;
+    store64(l1 + 136, load64(l1 + 56));
+    store64(l1 + 144, load64(l1 + 64));
+    store64(l1 + 152, load64(l1 + 72));
+    store64(l1 + 160, load64(l1 + 80));
+    store64(l1 + 168, load64(l1 + 88));
     l11 = 0ull;
+    store64(l1 + 128, 0ull);
+    store64(l1 + 120, 0ull);
     store64(l1 + 112, 0ull);
     store64(l1 + 104, 0ull);
     store64(l1 + 96, 0ull);
-    store64(l1 + 88, 0ull);
-    l12 = 0u;
-    l13 = 0u;
-    if (l8 < 20ull) goto L25;
-    l13 = 0u;
-    if ((l5 & 65535u) == 0) goto L25;
-    l13 = 2u;
-    if (l8 > 0x100000007ull) goto L25;
-    l14 = (uint64_t)l10;
-    if ((((l8 + l14) + (l14 & 1ull)) - 8ull) > 0xffffffffull) goto L25;
-    f24_effect(l1 + 88ull, l1 + 48ull, l9);
+    l6 = 1u;
+    f24_next_effect(l1 + 96ull, l1 + 136ull, 1u);
+    if (load8(l1 + 96) != 0) goto L26;
     l9 = 1u;
-    if (load8(l1 + 88) == 1u) goto L14;
-    store16(l1 + 66, l4);
-    store32(l1 + 60, 0u);
+    if (load8(l1 + 104) == 1u) goto L25;
+    store64(l1 + 88, load64(l1 + 168));
+    store64(l1 + 80, load64(l1 + 160));
+    store64(l1 + 72, load64(l1 + 152));
+    store64(l1 + 64, load64(l1 + 144));
+    store64(l1 + 56, load64(l1 + 136));
+L27:;
+    store32(l1 + 80, 3u);
+    l9 = load32(l1 + 64);
+    l8 = (uint64_t)l9;
+    l14 = l8 + load64(l1 + 56);
+    l8 = l14 < l8 ? 0xffffffffffffffffull : l14;
+    store32(l1 + 84, l10);
+    l12 = 0u;
+    l9 = l10 - l9;
+    l11 = (uint64_t)(l9 > l10 ? 0u : l9);
+    goto L6;
 L26:;
-    store32(l1 + 72, 3u);
-    l8 = l14 + l8;
-    l8 = l8 < l14 ? 0xffffffffffffffffull : l8;
+    store64(l1 + 56, load64(l1 + 136));
+    store64(l1 + 64, load64(l1 + 144));
+    store64(l1 + 72, load64(l1 + 152));
+    store64(l1 + 88, load64(l1 + 168));
+    goto L3;
+L25:;
+    l12 = load32(l1 + 128);
+    l11 = load64(l1 + 120);
+    l8 = (uint64_t)load8(l1 + 112);
+L20:;
     l6 = 0u;
-    l9 = l3 - l10;
-    l11 = (uint64_t)(l9 > l3 ? 0u : l9);
+    l4 = 1u;
+    goto L4;
+L19:;
+    store32(l1 + 80, 3u);
+    l9 = load32(l1 + 64);
+    l8 = (uint64_t)l9;
+    l14 = l8 + load64(l1 + 56);
+    l8 = l14 < l8 ? 0xffffffffffffffffull : l14;
+    l12 = 0u;
+    l10 = load32(l1 + 84);
+    l9 = l10 - l9;
+    l11 = (uint64_t)(l9 > l10 ? 0u : l9);
+    goto L6;
+L16:;
+    l8 = (uint64_t)load32(l1 + 64);
+    l14 = l8 + load64(l1 + 56);
+    l8 = l14 < l8 ? 0xffffffffffffffffull : l14;
+    l4 = 1u;
+L15:;
+    l12 = 0u;
+    l9 = 3u;
+    goto L5;
+    TRAP();
+L6:;
     l4 = 1u;
     l9 = 2u;
+L5:;
+    l6 = 0u;
+L4:;
+    l13 = 0u;
+    l10 = 1u;
+    goto L1;
+L3:;
+    store64(l1 + 80, l11);
+    l13 = load8(l1 + 97);
     l12 = 0u;
-    goto L9;
-L25:;
-    store64(l1 + 72, 0ull);
-    store16(l1 + 66, l4);
-L20:;
-    l7 = 1u;
-L15:;
+L2:;
     l8 = 0ull;
     l9 = 0u;
     l4 = 0u;
     l10 = 0u;
-    goto L7;
-L14:;
-    l12 = load32(l1 + 112);
-    l11 = load64(l1 + 104);
-    l8 = (uint64_t)load8(l1 + 96);
-L13:;
-    l7 = 0u;
-    l4 = 1u;
-    goto L8;
-L12:;
-    store32(l1 + 72, 3u);
-    l9 = load32(l1 + 56);
-    l8 = (uint64_t)l9;
-    l14 = l8 + load64(l1 + 48);
-    l8 = l14 < l8 ? 0xffffffffffffffffull : l14;
-    l12 = 0u;
-    l10 = load32(l1 + 76);
-    l9 = l10 - l9;
-    l11 = (uint64_t)(l9 > l10 ? 0u : l9);
-    l4 = 1u;
-    l9 = 2u;
-    goto L9;
-L11:;
-    l8 = (uint64_t)load32(l1 + 56);
-    l14 = l8 + load64(l1 + 48);
-    l8 = l14 < l8 ? 0xffffffffffffffffull : l14;
-    l4 = 1u;
-L10:;
-    l12 = 0u;
-    l9 = 3u;
-L9:;
-    l7 = 0u;
-L8:;
-    l13 = 0u;
-    l10 = 1u;
-L7:;
-    l2 = load8(l1 + 80);
-    l15 = load32(l1 + 76);
-    l3 = load32(l1 + 72);
-    l16 = load16(l1 + 66);
-    l17 = load16(l1 + 64);
-    l18 = load32(l1 + 60);
-    l19 = load32(l1 + 56);
-    l14 = load64(l1 + 48);
-    if (l10 != 0) goto L29;
+L1:;
+    l7 = load8(l1 + 88);
+    l2 = load32(l1 + 84);
+    l3 = load32(l1 + 80);
+    l15 = load8(l1 + 76);
+    l16 = load16(l1 + 74);
+    l17 = load16(l1 + 72);
+    l18 = load32(l1 + 68);
+    l19 = load32(l1 + 64);
+    l14 = load64(l1 + 56);
+    if (l10 != 0) goto L30;
     l9 = 0u;
-    store32(l1 + 120, 0u);
+    store32(l1 + 168, 0u);
     l8 = 0ull;
-    store64(l1 + 112, 0ull);
-    store64(l1 + 104, 0ull);
-    store64(l1 + 96, 0ull);
-    store64(l1 + 88, 0ull);
+    store64(l1 + 160, 0ull);
+    store64(l1 + 152, 0ull);
+    store64(l1 + 144, 0ull);
+    store64(l1 + 136, 0ull);
     l5 = 0u;
-    l7 = 0u;
-    goto L28;
-L29:;
-    l5 = 0u;
-    store32(l1 + 120, 0u);
-    store64(l1 + 112, 0ull);
-    store64(l1 + 104, 0ull);
-    store64(l1 + 96, 0ull);
-    store64(l1 + 88, 0ull);
-    if (l7 == 0) goto L30;
-    l9 = 0u;
-    l8 = 0ull;
-    l7 = 0u;
-    goto L28;
+    l6 = 0u;
+    goto L29;
 L30:;
+    l5 = 0u;
+    store32(l1 + 168, 0u);
+    store64(l1 + 160, 0ull);
+    store64(l1 + 152, 0ull);
+    store64(l1 + 144, 0ull);
+    store64(l1 + 136, 0ull);
+    if (l6 == 0) goto L31;
+    l9 = 0u;
+    l8 = 0ull;
+    l6 = 0u;
+    goto L29;
+L31:;
     l5 = (uint32_t)l11;
-    l7 = 1u;
+    l6 = 1u;
     switch (l9) {
-    case 1: goto L34;
-    case 2: goto L33;
-    case 3: goto L32;
-    default: goto L28;
+    case 1: goto L35;
+    case 2: goto L34;
+    case 3: goto L33;
+    default: goto L29;
     }
-L34:;
+L35:;
     l20 = (uint32_t)l8;
     l5 = l20 & 255u;
-    l7 = 2u;
+    l6 = 2u;
     l9 = 0u;
     l8 = l11;
     switch ((uint32_t)(((uint64_t)l20) & 255ull)) {
-    case 1: goto L28;
-    case 2: goto L36;
-    default: goto L35;
+    case 1: goto L29;
+    case 2: goto L37;
+    default: goto L36;
     }
-L36:;
+L37:;
     l5 = 4u;
     l9 = l12;
     l8 = l11;
-    goto L28;
-L35:;
-    l7 = 4u;
+    goto L29;
+L36:;
+    l6 = 4u;
     l9 = 0u;
     l8 = 0ull;
-    goto L31;
+    goto L32;
+L34:;
+    l6 = 3u;
+    l9 = 0u;
+    goto L29;
 L33:;
-    l7 = 3u;
+    l6 = 5u;
     l9 = 0u;
-    goto L28;
 L32:;
-    l7 = 5u;
-    l9 = 0u;
-L31:;
     l5 = 0u;
-L28:;
-    l12 = load32(l1 + 120);
-    store32(l1 + 40, l12);
-    l11 = load64(l1 + 112);
-    store64(l1 + 32, l11);
-    l21 = load64(l1 + 104);
-    store64(l1 + 24, l21);
-    l22 = load64(l1 + 96);
-    store64(l1 + 16, l22);
-    l23 = load64(l1 + 88);
-    store64(l1 + 8, l23);
+L29:;
+    l12 = load32(l1 + 168);
+    store32(l1 + 48, l12);
+    l11 = load64(l1 + 160);
+    store64(l1 + 40, l11);
+    l21 = load64(l1 + 152);
+    store64(l1 + 32, l21);
+    l22 = load64(l1 + 144);
+    store64(l1 + 24, l22);
+    l23 = load64(l1 + 136);
+    store64(l1 + 16, l23);
     store32(l0 + 16, l9);
     store16(l0 + 14, 0u);
-    store16(l0 + 12, l7);
+    store16(l0 + 12, l6);
     store32(l0 + 8, l5);
     store64(l0, l8);
     store64(l0 + 20, l23);
@@ -8722,24 +8550,23 @@ L28:;
     store64(l0 + 44, l11);
     store32(l0 + 52, l12);
     store16(l0 + 86, 0u);
-    store16(l0 + 84ull, l2 & 1u);
+    store16(l0 + 84ull, l7 & 1u);
     store16(l0 + 82ull, l3 & 255u);
-    store16(l0 + 80ull, l6 & 255u);
+    store16(l0 + 80ull, l15);
     store16(l0 + 78ull, l16);
     store16(l0 + 76ull, l17);
     store32(l0 + 68ull, l18);
     store32(l0 + 64ull, l19);
     store64(l0 + 56ull, l14);
-    store32(l0 + 72ull, (l3 & 254u) == 2u ? l15 : 0u);
-    if (l10 != 0) goto L37;
+    store32(l0 + 72ull, (l3 & 254u) == 2u ? l2 : 0u);
+    if (l10 != 0) goto L38;
     l4 = load32(DATA(144) + ((((uint64_t)l13) & 255ull) << 2));
-L37:;
+L38:;
     return l4;
-    TRAP();
 }
 
 /* rattle::export hound_recorder_resume */
-static uint32_t f97_hound_recorder_resume(uint64_t l0, uint32_t l1, uint64_t l2) {
+static uint32_t f96_hound_recorder_resume(uint64_t l0, uint32_t l1, uint64_t l2) {
     uint32_t l3 = 0, l4 = 0, l5 = 0, l9 = 0, l11 = 0, l13 = 0, l14 = 0;
     uint64_t l6 = 0, l7 = 0, l8 = 0, l10 = 0, l12 = 0;
     l3 = load16(l0 + 6);
@@ -8841,7 +8668,7 @@ L1:;
 }
 
 /* rattle::export hound_recorder_write */
-static uint32_t f99_hound_recorder_write(uint64_t sp, uint64_t l0, uint64_t l1) {
+static uint32_t f98_hound_recorder_write(uint64_t sp, uint64_t l0, uint64_t l1) {
     uint32_t l3 = 0, l4 = 0, l5 = 0, l6 = 0, l7 = 0, l8 = 0, l10 = 0, l11 = 0, l13 = 0, l14 = 0;
     uint64_t l2 = 0, l9 = 0, l12 = 0;
     l2 = sp - 48ull;
@@ -8973,14 +8800,14 @@ L15:;
 }
 
 /* rattle::export hound_repair */
-static uint64_t f101_hound_repair(uint64_t sp, uint64_t l0, uint64_t l1, uint64_t l2, uint64_t l3) {
+static uint64_t f100_hound_repair(uint64_t sp, uint64_t l0, uint64_t l1, uint64_t l2, uint64_t l3) {
     uint32_t l5 = 0;
     uint64_t l4 = 0;
     l4 = sp - 16ull;
     sp = l4;
     store64(l4 + 8, 0ull);
     store64(l4, 0ull);
-    f26_repair_file(sp, l4, l0 + (l0 == 0 ? 4096ull : 0ull), l1, l2, 1u, l3);
+    f25_repair_file(sp, l4, l0 + (l0 == 0 ? 4096ull : 0ull), l1, l2, 1u, l3);
     if (load8(l4) != 0) goto L4;
     l0 = load64(l4 + 8);
     goto L1;
@@ -9041,14 +8868,14 @@ L1:;
 }
 
 /* rattle::export hound_repair_to_end */
-static uint64_t f103_hound_repair_to_end(uint64_t sp, uint64_t l0, uint64_t l1, uint64_t l2, uint64_t l3) {
+static uint64_t f102_hound_repair_to_end(uint64_t sp, uint64_t l0, uint64_t l1, uint64_t l2, uint64_t l3) {
     uint32_t l5 = 0;
     uint64_t l4 = 0;
     l4 = sp - 16ull;
     sp = l4;
     store64(l4 + 8, 0ull);
     store64(l4, 0ull);
-    f26_repair_file(sp, l4, l0 + (l0 == 0 ? 4096ull : 0ull), l1, l2, 2u, l3);
+    f25_repair_file(sp, l4, l0 + (l0 == 0 ? 4096ull : 0ull), l1, l2, 2u, l3);
     if (load8(l4) != 0) goto L4;
     l0 = load64(l4 + 8);
     goto L1;
@@ -9109,7 +8936,7 @@ L1:;
 }
 
 /* rattle::export hound_repairer_begin */
-static void f105_hound_repairer_begin(uint64_t l0, uint32_t l1, uint64_t l2) {
+static void f104_hound_repairer_begin(uint64_t l0, uint32_t l1, uint64_t l2) {
     store64(l2 + 48, 0ull);
     store64(l2 + 40, 0ull);
     store64(l2 + 32, 0ull);
@@ -9129,7 +8956,7 @@ static void f105_hound_repairer_begin(uint64_t l0, uint32_t l1, uint64_t l2) {
 }
 
 /* rattle::export hound_repairer_next */
-static uint32_t f107_hound_repairer_next(uint64_t sp, uint64_t l0, uint64_t l1) {
+static uint32_t f106_hound_repairer_next(uint64_t sp, uint64_t l0, uint64_t l1) {
     uint32_t l5 = 0, l6 = 0, l7 = 0, l8 = 0, l9 = 0, l10 = 0, l11 = 0, l12 = 0, l13 = 0, l14 = 0, l16 = 0, l17 = 0, l18 = 0, l19 = 0, l20 = 0, l21 = 0, l22 = 0, l24 = 0, l25 = 0, l26 = 0, l27 = 0, l28 = 0, l29 = 0, l31 = 0, l32 = 0, l33 = 0, l34 = 0, l35 = 0, l36 = 0, l37 = 0, l38 = 0, l39 = 0, l40 = 0, l41 = 0, l42 = 0, l43 = 0, l44 = 0;
     uint64_t l2 = 0, l3 = 0, l4 = 0, l15 = 0, l23 = 0, l30 = 0, l45 = 0, l46 = 0, l47 = 0, l48 = 0, l49 = 0, l50 = 0, l51 = 0;
     l2 = sp - 1216ull;
@@ -9883,7 +9710,7 @@ L47:;
     store64(l2 + 64, (((uint64_t)l35) << 32) | ((uint64_t)l34));
     store64(l2 + 56, (((uint64_t)l17) << 32) | ((((uint64_t)l16) << 8) | (((uint64_t)l5) & 255ull)));
     store8(l2 + 49, l6);
-    f27_repairer_for_c(sp, l2 + 120ull, l2 + 704ull, l2 + 48ull, l2 + 8ull);
+    f26_repairer_for_c(sp, l2 + 120ull, l2 + 704ull, l2 + 48ull, l2 + 8ull);
     MOVE(l0, l2 + 120ull, 120ull);
     l12 = (l6 & 255u) != 0 ? 0xffffffe1u : 0xffffffe4u;
     goto L1;
@@ -10100,7 +9927,7 @@ L28:;
     store64(l2 + 528, (((uint64_t)l21) << 32) | ((uint64_t)l20));
     store64(l2 + 560, ((((uint64_t)l18) << 8) | (((uint64_t)l29) & 255ull)) | l45);
     store64(l2 + 520, ((((uint64_t)l26) << 8) | (((uint64_t)l13) & 255ull)) | (((uint64_t)l19) << 32));
-    f27_repairer_for_c(sp, l2 + 584ull, l2 + 704ull, l2 + 512ull, l2 + 472ull);
+    f26_repairer_for_c(sp, l2 + 584ull, l2 + 704ull, l2 + 512ull, l2 + 472ull);
     MOVE(l0, l2 + 584ull, 120ull);
     l12 = 1u;
     goto L1;
@@ -10133,7 +9960,7 @@ L101:;
     store16(l1 + 4, l35);
     store32(l1, (uint32_t)(l30 >> 32));
     store32(l1 + 20, l6 & 255u);
-    store16(l1 + 10, (uint32_t)((l4 & 0xff0000ull) != 0x10000ull));
+    store16(l1 + 10, (uint32_t)((l4 & 0xff0000ull) == 0));
     store8(l2 + 344, l9);
     store64(l2 + 336, l15);
     store8(l2 + 281, l28);
@@ -10145,7 +9972,7 @@ L101:;
     store64(l2 + 328, ((((uint64_t)l18) << 8) | (((uint64_t)l29) & 255ull)) | l45);
     store64(l2 + 288, ((((uint64_t)l26) << 8) | (((uint64_t)l13) & 255ull)) | (((uint64_t)l19) << 32));
     store64(l2 + 240, 0ull);
-    f27_repairer_for_c(sp, l2 + 352ull, l2 + 704ull, l2 + 280ull, l2 + 240ull);
+    f26_repairer_for_c(sp, l2 + 352ull, l2 + 704ull, l2 + 280ull, l2 + 240ull);
     MOVE(l0, l2 + 352ull, 120ull);
     l12 = 0u;
     goto L1;
@@ -10156,7 +9983,7 @@ L1:;
 }
 
 /* rattle::export hound_size */
-static uint64_t f109_hound_size(uint64_t l0, uint64_t l1) {
+static uint64_t f108_hound_size(uint64_t l0, uint64_t l1) {
     uint32_t l2 = 0, l3 = 0, l4 = 0, l5 = 0, l6 = 0;
     uint64_t l7 = 0;
     l2 = load16(l0 + 10);
@@ -10207,7 +10034,7 @@ L6:;
 }
 
 /* rattle::export hound_sizes */
-static uint64_t f111_hound_sizes(uint64_t l0, uint64_t l1, uint64_t l2, uint64_t l3, uint64_t l4) {
+static uint64_t f110_hound_sizes(uint64_t l0, uint64_t l1, uint64_t l2, uint64_t l3, uint64_t l4) {
     uint32_t l5 = 0, l6 = 0, l7 = 0, l8 = 0, l9 = 0;
     l5 = load16(l0 + 10);
     l6 = load16(l0 + 6);
@@ -10258,10 +10085,10 @@ L3:;
 }
 
 /* rattle::export hound_to_f32 */
-static uint64_t f113_hound_to_f32(uint64_t sp, uint64_t l0, uint64_t l1, uint64_t l2, uint64_t l3, uint64_t l4) {
-    uint32_t l6 = 0, l7 = 0, l8 = 0, l9 = 0, l19 = 0, t2, t3;
+static uint64_t f112_hound_to_f32(uint64_t sp, uint64_t l0, uint64_t l1, uint64_t l2, uint64_t l3, uint64_t l4) {
+    uint32_t l6 = 0, l7 = 0, l8 = 0, l9 = 0, l20 = 0, t2, t3;
     uint64_t l5 = 0, l10 = 0, l12 = 0, l13 = 0;
-    float l11 = 0, l14 = 0, l15 = 0, l16 = 0, l17 = 0, l18 = 0, t1;
+    float l11 = 0, l14 = 0, l15 = 0, l16 = 0, l17 = 0, l18 = 0, l19 = 0, t1;
     l5 = sp - 16ull;
     l6 = load16(l0 + 10);
     l7 = load16(l0 + 6);
@@ -10287,119 +10114,96 @@ L5:;
     l4 = l1 < l4 ? l1 : l4;
     l9 = l7 - 8u;
     switch ((uint32_t)(((uint64_t)((l9 << 13) | ((l9 & 65528u) >> 3))) & 65535ull)) {
-    case 0: goto L9;
-    case 1: goto L12;
-    case 2: goto L11;
-    case 3: goto L10;
+    case 0: goto L7;
+    case 1: goto L10;
+    case 2: goto L9;
+    case 3: goto L8;
     default: goto L6;
     }
-L12:;
+L10:;
     if (l8 != 2u) goto L6;
-    if (!(l4 == 0)) goto L13;
+    if (!(l4 == 0)) goto L11;
     return 0ull;
-L13:;
+L11:;
     l11 = (1.0f) / ((32768.0f) + ((0.0f) * (65536.0f)));
     l10 = 0ull;
-    if (l4 == 1ull) goto L14;
+    if (l4 == 1ull) goto L12;
     l12 = l4 & 1ull;
     l2 = l4 & 0x7ffffffffffffffeull;
     l10 = 0ull;
     l1 = l3;
     l5 = l0;
-L15:;
+L13:;
     store_f32(l1, l11 * ((float)s32((extend16(load16(l5))))));
     store_f32(l1 + 4ull, l11 * ((float)s32((extend16(load16(l5 + 2ull))))));
     l1 = l1 + 8ull;
     l5 = l5 + 4ull;
     l10 = l10 + 2ull;
-    if (l2 != l10) goto L15;
+    if (l2 != l10) goto L13;
     if (l12 == 0) goto L1;
-L14:;
+L12:;
     store_f32(l3 + (l10 << 2), l11 * ((float)s32((extend16(load16(l0 + (l10 << 1)))))));
     return l4;
-L11:;
+L9:;
     switch (l8 - 3u) {
-    case 0: goto L16;
-    case 1: goto L17;
+    case 0: goto L14;
+    case 1: goto L15;
     default: goto L6;
     }
-L17:;
-    if (!(l4 == 0)) goto L18;
+L15:;
+    if (!(l4 == 0)) goto L16;
     return 0ull;
-L18:;
+L16:;
     l11 = (1.0f) / ((0.0f) + ((128.0f) * (65536.0f)));
     l10 = 0ull;
-    if (l4 == 1ull) goto L19;
+    if (l4 == 1ull) goto L17;
     l13 = l4 & 1ull;
     l12 = l4 & 0xfffffffffffffffeull;
     l1 = 0ull;
     l10 = 0ull;
-L20:;
+L18:;
     l2 = l3 + l1;
     l5 = l0 + l1;
     store_f32(l2, l11 * ((float)s32((((extend8(load8(l5 + 2ull))) << 16) | load16(l5)))));
     store_f32(l2 + 4ull, l11 * ((float)s32((((extend8(load8(l5 + 6ull))) << 16) | load16(l5 + 4ull)))));
     l1 = l1 + 8ull;
     l10 = l10 + 2ull;
-    if (l12 != l10) goto L20;
+    if (l12 != l10) goto L18;
     if (l13 == 0) goto L1;
-L19:;
+L17:;
     l1 = l10 << 2;
     l0 = l0 + l1;
     store_f32(l3 + l1, l11 * ((float)s32((((extend8(load8(l0 + 2))) << 16) | load16(l0)))));
     return l4;
-L16:;
-    if (!(l4 == 0)) goto L8;
+L14:;
+    if (!(l4 == 0)) goto L19;
     return 0ull;
-L10:;
-    if (l8 != 4u) goto L6;
-    if (!(l4 == 0)) goto L7;
-    return 0ull;
-L9:;
-    if (l8 != 1u) goto L6;
-    if (!(l4 == 0)) goto L21;
-    return 0ull;
-L21:;
-    l11 = (1.0f) / ((128.0f) + ((0.0f) * (65536.0f)));
-    l5 = 0ull;
-    if (l4 == 1ull) goto L22;
-    l12 = l4 & 1ull;
-    l2 = l4 & 0xfffffffffffffffeull;
-    l5 = 0ull;
-    l1 = l3;
-L23:;
-    l10 = l0 + l5;
-    store_f32(l1, l11 * ((float)s32((extend8((load8(l10) ^ 128u))))));
-    store_f32(l1 + 4ull, l11 * ((float)s32((extend8((load8(l10 + 1ull) ^ 128u))))));
-    l1 = l1 + 8ull;
-    l5 = l5 + 2ull;
-    if (l2 != l5) goto L23;
-    if (l12 == 0) goto L1;
-L22:;
-    store_f32(l3 + (l5 << 2), l11 * ((float)s32((extend8((load8(l0 + l5) ^ 128u))))));
-    goto L1;
-L8:;
+L19:;
     l11 = (1.0f) / ((0.0f) + ((128.0f) * (65536.0f)));
     l1 = l4;
-L24:;
+L20:;
     store_f32(l3, l11 * ((float)s32((((extend8(load8(l0 + 2ull))) << 16) | load16(l0)))));
     l0 = l0 + 3ull;
     l3 = l3 + 4ull;
     l1 = l1 - 1ull;
-    if (!(l1 == 0)) goto L24;
+    if (!(l1 == 0)) goto L20;
     goto L1;
-L7:;
+L8:;
+    if (l8 != 4u) goto L6;
+    if (!(l4 == 0)) goto L21;
+    return 0ull;
+L21:;
     l11 = (1.0f) / ((0.0f) + ((32768.0f) * (65536.0f)));
     l14 = neg_f32(l11);
     l1 = l4;
-L25:;
-    l7 = load8(l0 + 2ull);
+L22:;
+    l6 = load8(l0 + 2ull);
     l8 = load8(l0 + 3ull);
-    l6 = load16(l0);
+    l7 = load16(l0);
     store_f32(l5 + 12, l14);
     store_f32(l5 + 8, l11);
     t1 = load_f32((l5 + 8ull) + ((uint64_t)((l8 >> 5) & 4u)));
-    l8 = (l6 | (l7 << 16)) | (l8 << 24);
+    l8 = (l7 | (l6 << 16)) | (l8 << 24);
     t2 = l8;
     l8 = shr_s32(l8, 31);
     l8 = (t2 ^ l8) - l8;
@@ -10407,26 +10211,49 @@ L25:;
     l0 = l0 + 4ull;
     l3 = l3 + 4ull;
     l1 = l1 - 1ull;
-    if (!(l1 == 0)) goto L25;
+    if (!(l1 == 0)) goto L22;
+    goto L1;
+L7:;
+    if (l8 != 1u) goto L6;
+    if (!(l4 == 0)) goto L23;
+    return 0ull;
+L23:;
+    l11 = (1.0f) / ((128.0f) + ((0.0f) * (65536.0f)));
+    l5 = 0ull;
+    if (l4 == 1ull) goto L24;
+    l12 = l4 & 1ull;
+    l2 = l4 & 0xfffffffffffffffeull;
+    l5 = 0ull;
+    l1 = l3;
+L25:;
+    l10 = l0 + l5;
+    store_f32(l1, l11 * ((float)s32((extend8((load8(l10) ^ 128u))))));
+    store_f32(l1 + 4ull, l11 * ((float)s32((extend8((load8(l10 + 1ull) ^ 128u))))));
+    l1 = l1 + 8ull;
+    l5 = l5 + 2ull;
+    if (l2 != l5) goto L25;
+    if (l12 == 0) goto L1;
+L24:;
+    store_f32(l3 + (l5 << 2), l11 * ((float)s32((extend8((load8(l0 + l5) ^ 128u))))));
     goto L1;
 L6:;
     if (!(l4 == 0)) goto L26;
     return 0ull;
 L26:;
-    l7 = l6 > 1u ? 0u : l7;
-    l15 = 32768.0f;
+    l6 = l6 > 1u ? 0u : l7;
+    l8 = 1u << ((((l7 - 1u) & 65535u) & 31));
+    l15 = (1.0f) / (((float)(l8 & 65535u)) + (((float)(l8 >> 16)) * (65536.0f)));
+    l16 = neg_f32(l15);
     l11 = 0.0f;
-    l16 = l11 * (65536.0f);
-    l14 = (1.0f) / (l15 + l16);
-    l17 = 128.0f;
-    l18 = (1.0f) / (l11 + (l17 * (65536.0f)));
-    l16 = (1.0f) / (l17 + l16);
-    l15 = (1.0f) / (l11 + (l15 * (65536.0f)));
-    l17 = neg_f32(l15);
+    l17 = l11 * (65536.0f);
+    l14 = (1.0f) / ((32768.0f) + l17);
+    l18 = 128.0f;
+    l19 = (1.0f) / (l11 + (l18 * (65536.0f)));
+    l17 = (1.0f) / (l18 + l17);
     l1 = l4;
 L27:;
     l8 = load8(l0);
-    switch ((l7 & 65535u) - 8u) {
+    switch ((l6 & 65535u) - 8u) {
     case 0: goto L30;
     case 8: goto L32;
     case 16: goto L31;
@@ -10436,22 +10263,22 @@ L32:;
     l11 = l14 * ((float)s32((extend16(((load8(l0 + 1ull) << 8) | l8)))));
     goto L28;
 L31:;
-    l11 = l18 * ((float)s32((((extend8(load8(l0 + 2ull))) << 16) | ((load8(l0 + 1ull) << 8) | l8))));
+    l11 = l19 * ((float)s32((((extend8(load8(l0 + 2ull))) << 16) | ((load8(l0 + 1ull) << 8) | l8))));
     goto L28;
 L30:;
-    l11 = l16 * ((float)s32((extend8((l8 ^ 128u)))));
+    l11 = l17 * ((float)s32((extend8((l8 ^ 128u)))));
     goto L28;
 L29:;
-    l6 = load8(l0 + 3ull);
+    l7 = load8(l0 + 3ull);
     l9 = load8(l0 + 1ull);
-    l19 = load8(l0 + 2ull);
-    store_f32(l5 + 12, l17);
+    l20 = load8(l0 + 2ull);
+    store_f32(l5 + 12, l16);
     store_f32(l5 + 8, l15);
-    l8 = (((l9 << 8) | l8) | (l19 << 16)) | (l6 << 24);
+    l8 = (((l9 << 8) | l8) | (l20 << 16)) | (l7 << 24);
     t3 = l8;
     l8 = shr_s32(l8, 31);
     l8 = (t3 ^ l8) - l8;
-    l11 = (load_f32((l5 + 8ull) + ((uint64_t)((l6 >> 5) & 4u)))) * (((float)(l8 & 65535u)) + (((float)(l8 >> 16)) * (65536.0f)));
+    l11 = (load_f32((l5 + 8ull) + ((uint64_t)((l7 >> 5) & 4u)))) * (((float)(l8 & 65535u)) + (((float)(l8 >> 16)) * (65536.0f)));
 L28:;
     store_f32(l3, l11);
     l0 = l0 + l10;
@@ -10467,7 +10294,7 @@ L1:;
 }
 
 /* rattle::export hound_to_f64 */
-static uint64_t f115_hound_to_f64(uint64_t l0, uint64_t l1, uint64_t l2, uint64_t l3, uint64_t l4) {
+static uint64_t f114_hound_to_f64(uint64_t l0, uint64_t l1, uint64_t l2, uint64_t l3, uint64_t l4) {
     uint32_t l5 = 0, l6 = 0, l7 = 0, l8 = 0;
     uint64_t l9 = 0, l11 = 0, l12 = 0;
     double l10 = 0;
@@ -10495,114 +10322,114 @@ L5:;
     l4 = l1 < l4 ? l1 : l4;
     l8 = l6 - 8u;
     switch ((uint32_t)(((uint64_t)((l8 << 13) | ((l8 & 65528u) >> 3))) & 65535ull)) {
-    case 0: goto L9;
-    case 1: goto L12;
-    case 2: goto L11;
-    case 3: goto L10;
+    case 0: goto L7;
+    case 1: goto L10;
+    case 2: goto L9;
+    case 3: goto L8;
     default: goto L6;
     }
-L12:;
+L10:;
     if (l7 != 2u) goto L6;
-    if (!(l4 == 0)) goto L13;
+    if (!(l4 == 0)) goto L11;
     return 0ull;
-L13:;
+L11:;
     l10 = (1.0) / (32768.0);
     l2 = 0ull;
-    if (l4 == 1ull) goto L14;
+    if (l4 == 1ull) goto L12;
     l11 = l4 & 1ull;
     l12 = l4 & 0x7ffffffffffffffeull;
     l2 = 0ull;
     l1 = l3;
     l9 = l0;
-L15:;
+L13:;
     store_f64(l1, l10 * ((double)s32((extend16(load16(l9))))));
     store_f64(l1 + 8ull, l10 * ((double)s32((extend16(load16(l9 + 2ull))))));
     l1 = l1 + 16ull;
     l9 = l9 + 4ull;
     l2 = l2 + 2ull;
-    if (l12 != l2) goto L15;
+    if (l12 != l2) goto L13;
     if (l11 == 0) goto L1;
-L14:;
+L12:;
     store_f64(l3 + (l2 << 3), l10 * ((double)s32((extend16(load16(l0 + (l2 << 1)))))));
     return l4;
-L11:;
+L9:;
     switch (l7 - 3u) {
-    case 0: goto L16;
-    case 1: goto L17;
+    case 0: goto L15;
+    case 1: goto L16;
     default: goto L6;
     }
-L17:;
-    if (!(l4 == 0)) goto L7;
-    return 0ull;
 L16:;
-    if (!(l4 == 0)) goto L8;
+    if (!(l4 == 0)) goto L14;
     return 0ull;
-L10:;
-    if (l7 != 4u) goto L6;
-    if (!(l4 == 0)) goto L18;
+L15:;
+    if (!(l4 == 0)) goto L17;
     return 0ull;
+L17:;
+    l10 = (1.0) / (8388608.0);
+    l1 = l4;
 L18:;
+    store_f64(l3, l10 * ((double)s32((((extend8(load8(l0 + 2ull))) << 16) | load16(l0)))));
+    l0 = l0 + 3ull;
+    l3 = l3 + 8ull;
+    l1 = l1 - 1ull;
+    if (!(l1 == 0)) goto L18;
+    goto L1;
+L14:;
+    l10 = (1.0) / (8388608.0);
+    l1 = l4;
+L19:;
+    store_f64(l3, l10 * ((double)s32((((extend8(load8(l0 + 2ull))) << 16) | load16(l0)))));
+    l0 = l0 + 4ull;
+    l3 = l3 + 8ull;
+    l1 = l1 - 1ull;
+    if (!(l1 == 0)) goto L19;
+    goto L1;
+L8:;
+    if (l7 != 4u) goto L6;
+    if (!(l4 == 0)) goto L20;
+    return 0ull;
+L20:;
     l10 = (1.0) / (2147483648.0);
     l2 = 0ull;
-    if (l4 == 1ull) goto L19;
+    if (l4 == 1ull) goto L21;
     l11 = l4 & 1ull;
     l12 = l4 & 0x3ffffffffffffffeull;
     l2 = 0ull;
     l1 = l3;
     l9 = l0;
-L20:;
+L22:;
     store_f64(l1, l10 * ((double)s32(load32(l9))));
     store_f64(l1 + 8ull, l10 * ((double)s32(load32(l9 + 4ull))));
     l1 = l1 + 16ull;
     l9 = l9 + 8ull;
     l2 = l2 + 2ull;
-    if (l12 != l2) goto L20;
+    if (l12 != l2) goto L22;
     if (l11 == 0) goto L1;
-L19:;
+L21:;
     store_f64(l3 + (l2 << 3), l10 * ((double)s32((load32(l0 + (l2 << 2))))));
     return l4;
-L9:;
+L7:;
     if (l7 != 1u) goto L6;
-    if (!(l4 == 0)) goto L21;
+    if (!(l4 == 0)) goto L23;
     return 0ull;
-L21:;
+L23:;
     l10 = (1.0) / (128.0);
     l9 = 0ull;
-    if (l4 == 1ull) goto L22;
+    if (l4 == 1ull) goto L24;
     l11 = l4 & 1ull;
     l12 = l4 & 0xfffffffffffffffeull;
     l9 = 0ull;
     l1 = l3;
-L23:;
+L25:;
     l2 = l0 + l9;
     store_f64(l1, l10 * ((double)s32((extend8((load8(l2) ^ 128u))))));
     store_f64(l1 + 8ull, l10 * ((double)s32((extend8((load8(l2 + 1ull) ^ 128u))))));
     l1 = l1 + 16ull;
     l9 = l9 + 2ull;
-    if (l12 != l9) goto L23;
+    if (l12 != l9) goto L25;
     if (l11 == 0) goto L1;
-L22:;
-    store_f64(l3 + (l9 << 3), l10 * ((double)s32((extend8((load8(l0 + l9) ^ 128u))))));
-    goto L1;
-L8:;
-    l10 = (1.0) / (8388608.0);
-    l1 = l4;
 L24:;
-    store_f64(l3, l10 * ((double)s32((((extend8(load8(l0 + 2ull))) << 16) | load16(l0)))));
-    l0 = l0 + 3ull;
-    l3 = l3 + 8ull;
-    l1 = l1 - 1ull;
-    if (!(l1 == 0)) goto L24;
-    goto L1;
-L7:;
-    l10 = (1.0) / (8388608.0);
-    l1 = l4;
-L25:;
-    store_f64(l3, l10 * ((double)s32((((extend8(load8(l0 + 2ull))) << 16) | load16(l0)))));
-    l0 = l0 + 4ull;
-    l3 = l3 + 8ull;
-    l1 = l1 - 1ull;
-    if (!(l1 == 0)) goto L25;
+    store_f64(l3 + (l9 << 3), l10 * ((double)s32((extend8((load8(l0 + l9) ^ 128u))))));
     goto L1;
 L6:;
     if (!(l4 == 0)) goto L26;
@@ -10644,22 +10471,22 @@ L1:;
 }
 
 /* rattle::export hound_value_16 */
-static uint32_t f117_hound_value_16(uint32_t l0) {
+static uint32_t f116_hound_value_16(uint32_t l0) {
     return extend16(l0);
 }
 
 /* rattle::export hound_value_24 */
-static uint32_t f119_hound_value_24(uint32_t l0) {
+static uint32_t f118_hound_value_24(uint32_t l0) {
     return ((shr_s32((l0 << 8), 8)) & 0xffff0000u) | (l0 & 65535u);
 }
 
 /* rattle::export hound_value_8 */
-static uint32_t f123_hound_value_8(uint32_t l0) {
+static uint32_t f122_hound_value_8(uint32_t l0) {
     return extend8(l0) ^ 0xffffff80u;
 }
 
 /* rattle::export hound_walk_next */
-static uint32_t f127_hound_walk_next(uint64_t sp, uint64_t l0, uint64_t l1) {
+static uint32_t f126_hound_walk_next(uint64_t sp, uint64_t l0, uint64_t l1) {
     uint32_t l4 = 0, l5 = 0, l6 = 0, l7 = 0, l8 = 0, l9 = 0, l10 = 0, l11 = 0, l12 = 0, l13 = 0, l14 = 0, l15 = 0, l16 = 0, l17 = 0, l18 = 0, t1, t2, t3, t4;
     uint64_t l2 = 0, l3 = 0, l19 = 0;
     l2 = sp - 128ull;
@@ -10978,7 +10805,7 @@ L16:;
     l14 = 0u;
     goto L39;
 L40:;
-    l14 = (uint32_t)((l14 & 255u) != 1u);
+    l14 = (uint32_t)((l14 & 255u) == 0);
 L39:;
     l8 = 1u;
     store16(l0 + 12, 1u);
@@ -11028,7 +10855,7 @@ L1:;
 }
 
 /* rattle::export hound_walk_to_end */
-static uint32_t f129_hound_walk_to_end(uint64_t sp, uint64_t l0, uint64_t l1) {
+static uint32_t f128_hound_walk_to_end(uint64_t sp, uint64_t l0, uint64_t l1) {
     uint32_t l4 = 0, l5 = 0, l6 = 0, l7 = 0, l8 = 0, l9 = 0, l10 = 0, l11 = 0, l12 = 0, l13 = 0, l14 = 0, l15 = 0, l16 = 0, l17 = 0, l18 = 0, l20 = 0, l21 = 0, t1, t2, t3, t4;
     uint64_t l2 = 0, l3 = 0, l19 = 0;
     l2 = sp - 128ull;
@@ -11354,7 +11181,7 @@ L3:;
     l14 = 0u;
     goto L39;
 L40:;
-    l14 = (uint32_t)((l14 & 255u) != 1u);
+    l14 = (uint32_t)((l14 & 255u) == 0);
 L39:;
     l8 = 1u;
     store16(l0 + 12, 1u);
@@ -11389,7 +11216,7 @@ L1:;
 }
 
 /* rattle::export hound_whole_frames */
-static uint64_t f131_hound_whole_frames(uint64_t l0, uint64_t l1) {
+static uint64_t f130_hound_whole_frames(uint64_t l0, uint64_t l1) {
     uint32_t l2 = 0, l3 = 0;
     l2 = load16(l0 + 4);
     l3 = load16(l0 + 8);
@@ -11410,7 +11237,7 @@ L1:;
 }
 
 /* rattle::export hound_write_f32 */
-static uint64_t f133_hound_write_f32(uint64_t sp, uint64_t l0, uint64_t l1, uint64_t l2, uint64_t l3, uint64_t l4) {
+static uint64_t f132_hound_write_f32(uint64_t sp, uint64_t l0, uint64_t l1, uint64_t l2, uint64_t l3, uint64_t l4) {
     uint32_t l6 = 0, l7 = 0, l8 = 0, l9 = 0, l10 = 0, l11 = 0, l12 = 0, l13 = 0, l14 = 0, t1;
     uint64_t l5 = 0, l15 = 0, l16 = 0, l17 = 0, l18 = 0, l19 = 0, l20 = 0, l21 = 0, l22 = 0;
     l5 = sp - 96ull;
@@ -11510,7 +11337,7 @@ L6:;
 }
 
 /* rattle::export hound_write_i16 */
-static uint64_t f135_hound_write_i16(uint64_t sp, uint64_t l0, uint64_t l1, uint64_t l2, uint64_t l3, uint64_t l4) {
+static uint64_t f134_hound_write_i16(uint64_t sp, uint64_t l0, uint64_t l1, uint64_t l2, uint64_t l3, uint64_t l4) {
     uint32_t l6 = 0, l7 = 0, l8 = 0, l9 = 0, l10 = 0, l11 = 0, l12 = 0, l13 = 0;
     uint64_t l5 = 0, l14 = 0, l15 = 0;
     l5 = sp - 112ull;
@@ -11639,7 +11466,7 @@ L1:;
 }
 
 /* rattle::export hound_write_i32 */
-static uint64_t f137_hound_write_i32(uint64_t sp, uint64_t l0, uint64_t l1, uint64_t l2, uint64_t l3, uint64_t l4) {
+static uint64_t f136_hound_write_i32(uint64_t sp, uint64_t l0, uint64_t l1, uint64_t l2, uint64_t l3, uint64_t l4) {
     uint32_t l6 = 0, l7 = 0, l8 = 0, l9 = 0, l10 = 0, l11 = 0, l12 = 0, l13 = 0;
     uint64_t l5 = 0, l14 = 0, l15 = 0;
     l5 = sp - 112ull;
@@ -11773,161 +11600,161 @@ int32_t hound_version(void) {
 
 int32_t hound_info(const uint8_t *file, size_t length, hound_info_t *info) {
     STACK(544);
-    return s32(f79_hound_info(sp, (uint64_t)(uintptr_t)file, length, (uint64_t)(uintptr_t)info));
+    return s32(f78_hound_info(sp, (uint64_t)(uintptr_t)file, length, (uint64_t)(uintptr_t)info));
 }
 
 int32_t hound_walk_next(hound_walk *walk, hound_info_t *info) {
     STACK(416);
-    return s32(f127_hound_walk_next(sp, (uint64_t)(uintptr_t)walk, (uint64_t)(uintptr_t)info));
+    return s32(f126_hound_walk_next(sp, (uint64_t)(uintptr_t)walk, (uint64_t)(uintptr_t)info));
 }
 
 int32_t hound_walk_to_end(hound_walk *walk, hound_info_t *info) {
     STACK(416);
-    return s32(f129_hound_walk_to_end(sp, (uint64_t)(uintptr_t)walk, (uint64_t)(uintptr_t)info));
+    return s32(f128_hound_walk_to_end(sp, (uint64_t)(uintptr_t)walk, (uint64_t)(uintptr_t)info));
 }
 
 int64_t hound_whole_frames(const hound_spec *spec, uint64_t length) {
-    return s64(f131_hound_whole_frames((uint64_t)(uintptr_t)spec, length));
+    return s64(f130_hound_whole_frames((uint64_t)(uintptr_t)spec, length));
 }
 
 int64_t hound_guess_data(const uint8_t *file, size_t length) {
-    return s64(f75_hound_guess_data((uint64_t)(uintptr_t)file, length));
+    return s64(f74_hound_guess_data((uint64_t)(uintptr_t)file, length));
 }
 
 int32_t hound_kind(const uint8_t *file, size_t length) {
-    return s32(f81_hound_kind((uint64_t)(uintptr_t)file, length));
+    return s32(f80_hound_kind((uint64_t)(uintptr_t)file, length));
 }
 
 int64_t hound_read_i16(const uint8_t *file, size_t length, uint64_t first, int16_t *out, size_t count) {
     STACK(544);
-    return s64(f85_hound_read_i16(sp, (uint64_t)(uintptr_t)file, length, first, (uint64_t)(uintptr_t)out, count));
+    return s64(f84_hound_read_i16(sp, (uint64_t)(uintptr_t)file, length, first, (uint64_t)(uintptr_t)out, count));
 }
 
 int64_t hound_read_i32(const uint8_t *file, size_t length, uint64_t first, int32_t *out, size_t count) {
     STACK(544);
-    return s64(f87_hound_read_i32(sp, (uint64_t)(uintptr_t)file, length, first, (uint64_t)(uintptr_t)out, count));
+    return s64(f86_hound_read_i32(sp, (uint64_t)(uintptr_t)file, length, first, (uint64_t)(uintptr_t)out, count));
 }
 
 int64_t hound_read_f32(const uint8_t *file, size_t length, uint64_t first, float *out, size_t count) {
     STACK(544);
-    return s64(f83_hound_read_f32(sp, (uint64_t)(uintptr_t)file, length, first, (uint64_t)(uintptr_t)out, count));
+    return s64(f82_hound_read_f32(sp, (uint64_t)(uintptr_t)file, length, first, (uint64_t)(uintptr_t)out, count));
 }
 
 int64_t hound_size(const hound_spec *spec, uint64_t samples) {
-    return s64(f109_hound_size((uint64_t)(uintptr_t)spec, samples));
+    return s64(f108_hound_size((uint64_t)(uintptr_t)spec, samples));
 }
 
 int64_t hound_header(const hound_spec *spec, uint64_t samples, uint8_t *out, size_t capacity) {
     STACK(176);
-    return s64(f77_hound_header(sp, (uint64_t)(uintptr_t)spec, samples, (uint64_t)(uintptr_t)out, capacity));
+    return s64(f76_hound_header(sp, (uint64_t)(uintptr_t)spec, samples, (uint64_t)(uintptr_t)out, capacity));
 }
 
 int64_t hound_sizes(const hound_spec *spec, uint64_t data_start, uint64_t samples, uint8_t *out, size_t capacity) {
-    return s64(f111_hound_sizes((uint64_t)(uintptr_t)spec, data_start, samples, (uint64_t)(uintptr_t)out, capacity));
+    return s64(f110_hound_sizes((uint64_t)(uintptr_t)spec, data_start, samples, (uint64_t)(uintptr_t)out, capacity));
 }
 
 int64_t hound_write_i16(const hound_spec *spec, const int16_t *samples, size_t count, uint8_t *out, size_t capacity) {
     STACK(192);
-    return s64(f135_hound_write_i16(sp, (uint64_t)(uintptr_t)spec, (uint64_t)(uintptr_t)samples, count, (uint64_t)(uintptr_t)out, capacity));
+    return s64(f134_hound_write_i16(sp, (uint64_t)(uintptr_t)spec, (uint64_t)(uintptr_t)samples, count, (uint64_t)(uintptr_t)out, capacity));
 }
 
 int64_t hound_write_i32(const hound_spec *spec, const int32_t *samples, size_t count, uint8_t *out, size_t capacity) {
     STACK(192);
-    return s64(f137_hound_write_i32(sp, (uint64_t)(uintptr_t)spec, (uint64_t)(uintptr_t)samples, count, (uint64_t)(uintptr_t)out, capacity));
+    return s64(f136_hound_write_i32(sp, (uint64_t)(uintptr_t)spec, (uint64_t)(uintptr_t)samples, count, (uint64_t)(uintptr_t)out, capacity));
 }
 
 int64_t hound_write_f32(const hound_spec *spec, const float *samples, size_t count, uint8_t *out, size_t capacity) {
     STACK(176);
-    return s64(f133_hound_write_f32(sp, (uint64_t)(uintptr_t)spec, (uint64_t)(uintptr_t)samples, count, (uint64_t)(uintptr_t)out, capacity));
+    return s64(f132_hound_write_f32(sp, (uint64_t)(uintptr_t)spec, (uint64_t)(uintptr_t)samples, count, (uint64_t)(uintptr_t)out, capacity));
 }
 
 int64_t hound_append_i16(uint8_t *file, size_t capacity, size_t used, const int16_t *samples, size_t count) {
     STACK(576);
-    return s64(f31_hound_append_i16(sp, (uint64_t)(uintptr_t)file, capacity, used, (uint64_t)(uintptr_t)samples, count));
+    return s64(f30_hound_append_i16(sp, (uint64_t)(uintptr_t)file, capacity, used, (uint64_t)(uintptr_t)samples, count));
 }
 
 int64_t hound_append_i32(uint8_t *file, size_t capacity, size_t used, const int32_t *samples, size_t count) {
     STACK(576);
-    return s64(f33_hound_append_i32(sp, (uint64_t)(uintptr_t)file, capacity, used, (uint64_t)(uintptr_t)samples, count));
+    return s64(f32_hound_append_i32(sp, (uint64_t)(uintptr_t)file, capacity, used, (uint64_t)(uintptr_t)samples, count));
 }
 
 int64_t hound_append_f32(uint8_t *file, size_t capacity, size_t used, const float *samples, size_t count) {
     STACK(576);
-    return s64(f29_hound_append_f32(sp, (uint64_t)(uintptr_t)file, capacity, used, (uint64_t)(uintptr_t)samples, count));
+    return s64(f28_hound_append_f32(sp, (uint64_t)(uintptr_t)file, capacity, used, (uint64_t)(uintptr_t)samples, count));
 }
 
 int64_t hound_repair(uint8_t *file, size_t capacity, size_t used, hound_repair_t *found) {
     STACK(1072);
-    return s64(f101_hound_repair(sp, (uint64_t)(uintptr_t)file, capacity, used, (uint64_t)(uintptr_t)found));
+    return s64(f100_hound_repair(sp, (uint64_t)(uintptr_t)file, capacity, used, (uint64_t)(uintptr_t)found));
 }
 
 int64_t hound_repair_to_end(uint8_t *file, size_t capacity, size_t used, hound_repair_t *found) {
     STACK(1072);
-    return s64(f103_hound_repair_to_end(sp, (uint64_t)(uintptr_t)file, capacity, used, (uint64_t)(uintptr_t)found));
+    return s64(f102_hound_repair_to_end(sp, (uint64_t)(uintptr_t)file, capacity, used, (uint64_t)(uintptr_t)found));
 }
 
 int32_t hound_find_damage(const uint8_t *file, size_t length, hound_repair_t *found) {
     STACK(1056);
-    return s32(f69_hound_find_damage(sp, (uint64_t)(uintptr_t)file, length, (uint64_t)(uintptr_t)found));
+    return s32(f68_hound_find_damage(sp, (uint64_t)(uintptr_t)file, length, (uint64_t)(uintptr_t)found));
 }
 
 void hound_repairer_begin(uint64_t length, uint32_t mode, hound_repairer *repairer) {
-    f105_hound_repairer_begin(length, (uint32_t)mode, (uint64_t)(uintptr_t)repairer);
+    f104_hound_repairer_begin(length, (uint32_t)mode, (uint64_t)(uintptr_t)repairer);
 }
 
 int32_t hound_repairer_next(hound_repairer *repairer, hound_repair_t *found) {
     STACK(2032);
-    return s32(f107_hound_repairer_next(sp, (uint64_t)(uintptr_t)repairer, (uint64_t)(uintptr_t)found));
+    return s32(f106_hound_repairer_next(sp, (uint64_t)(uintptr_t)repairer, (uint64_t)(uintptr_t)found));
 }
 
 int64_t hound_decode_i8(const hound_spec *spec, const uint8_t *bytes, size_t length, int8_t *out, size_t count) {
-    return s64(f51_hound_decode_i8((uint64_t)(uintptr_t)spec, (uint64_t)(uintptr_t)bytes, length, (uint64_t)(uintptr_t)out, count));
+    return s64(f50_hound_decode_i8((uint64_t)(uintptr_t)spec, (uint64_t)(uintptr_t)bytes, length, (uint64_t)(uintptr_t)out, count));
 }
 
 int64_t hound_decode_i16(const hound_spec *spec, const uint8_t *bytes, size_t length, int16_t *out, size_t count) {
     STACK(16);
-    return s64(f47_hound_decode_i16(sp, (uint64_t)(uintptr_t)spec, (uint64_t)(uintptr_t)bytes, length, (uint64_t)(uintptr_t)out, count));
+    return s64(f46_hound_decode_i16(sp, (uint64_t)(uintptr_t)spec, (uint64_t)(uintptr_t)bytes, length, (uint64_t)(uintptr_t)out, count));
 }
 
 int64_t hound_decode_i32(const hound_spec *spec, const uint8_t *bytes, size_t length, int32_t *out, size_t count) {
     STACK(16);
-    return s64(f49_hound_decode_i32(sp, (uint64_t)(uintptr_t)spec, (uint64_t)(uintptr_t)bytes, length, (uint64_t)(uintptr_t)out, count));
+    return s64(f48_hound_decode_i32(sp, (uint64_t)(uintptr_t)spec, (uint64_t)(uintptr_t)bytes, length, (uint64_t)(uintptr_t)out, count));
 }
 
 int64_t hound_decode_f32(const hound_spec *spec, const uint8_t *bytes, size_t length, float *out, size_t count) {
     STACK(16);
-    return s64(f45_hound_decode_f32(sp, (uint64_t)(uintptr_t)spec, (uint64_t)(uintptr_t)bytes, length, (uint64_t)(uintptr_t)out, count));
+    return s64(f44_hound_decode_f32(sp, (uint64_t)(uintptr_t)spec, (uint64_t)(uintptr_t)bytes, length, (uint64_t)(uintptr_t)out, count));
 }
 
 int64_t hound_encode_i8(const hound_spec *spec, const int8_t *samples, size_t count, uint8_t *out, size_t capacity) {
     STACK(16);
-    return s64(f63_hound_encode_i8(sp, (uint64_t)(uintptr_t)spec, (uint64_t)(uintptr_t)samples, count, (uint64_t)(uintptr_t)out, capacity));
+    return s64(f62_hound_encode_i8(sp, (uint64_t)(uintptr_t)spec, (uint64_t)(uintptr_t)samples, count, (uint64_t)(uintptr_t)out, capacity));
 }
 
 int64_t hound_encode_i16(const hound_spec *spec, const int16_t *samples, size_t count, uint8_t *out, size_t capacity) {
     STACK(48);
-    return s64(f59_hound_encode_i16(sp, (uint64_t)(uintptr_t)spec, (uint64_t)(uintptr_t)samples, count, (uint64_t)(uintptr_t)out, capacity));
+    return s64(f58_hound_encode_i16(sp, (uint64_t)(uintptr_t)spec, (uint64_t)(uintptr_t)samples, count, (uint64_t)(uintptr_t)out, capacity));
 }
 
 int64_t hound_encode_i32(const hound_spec *spec, const int32_t *samples, size_t count, uint8_t *out, size_t capacity) {
     STACK(48);
-    return s64(f61_hound_encode_i32(sp, (uint64_t)(uintptr_t)spec, (uint64_t)(uintptr_t)samples, count, (uint64_t)(uintptr_t)out, capacity));
+    return s64(f60_hound_encode_i32(sp, (uint64_t)(uintptr_t)spec, (uint64_t)(uintptr_t)samples, count, (uint64_t)(uintptr_t)out, capacity));
 }
 
 int64_t hound_encode_f32(const hound_spec *spec, const float *samples, size_t count, uint8_t *out, size_t capacity) {
-    return s64(f57_hound_encode_f32((uint64_t)(uintptr_t)spec, (uint64_t)(uintptr_t)samples, count, (uint64_t)(uintptr_t)out, capacity));
+    return s64(f56_hound_encode_f32((uint64_t)(uintptr_t)spec, (uint64_t)(uintptr_t)samples, count, (uint64_t)(uintptr_t)out, capacity));
 }
 
 int32_t hound_value_8(uint32_t container) {
-    return s32(f123_hound_value_8((uint32_t)container));
+    return s32(f122_hound_value_8((uint32_t)container));
 }
 
 int32_t hound_value_16(uint32_t container) {
-    return s32(f117_hound_value_16((uint32_t)container));
+    return s32(f116_hound_value_16((uint32_t)container));
 }
 
 int32_t hound_value_24(uint32_t container) {
-    return s32(f119_hound_value_24((uint32_t)container));
+    return s32(f118_hound_value_24((uint32_t)container));
 }
 
 int32_t hound_value_32(uint32_t container) {
@@ -11935,86 +11762,86 @@ int32_t hound_value_32(uint32_t container) {
 }
 
 int64_t hound_container_8(int32_t value) {
-    return s64(f43_hound_container_8((uint32_t)value));
+    return s64(f42_hound_container_8((uint32_t)value));
 }
 
 int64_t hound_container_16(int32_t value) {
-    return s64(f37_hound_container_16((uint32_t)value));
+    return s64(f36_hound_container_16((uint32_t)value));
 }
 
 int64_t hound_container_24(int32_t value) {
-    return s64(f39_hound_container_24((uint32_t)value));
+    return s64(f38_hound_container_24((uint32_t)value));
 }
 
 int64_t hound_container_32(int32_t value) {
-    return s64(f41_hound_container_32((uint32_t)value));
+    return s64(f40_hound_container_32((uint32_t)value));
 }
 
 int64_t hound_to_f32(const hound_spec *spec, const uint8_t *bytes, size_t length, float *out, size_t count) {
     STACK(16);
-    return s64(f113_hound_to_f32(sp, (uint64_t)(uintptr_t)spec, (uint64_t)(uintptr_t)bytes, length, (uint64_t)(uintptr_t)out, count));
+    return s64(f112_hound_to_f32(sp, (uint64_t)(uintptr_t)spec, (uint64_t)(uintptr_t)bytes, length, (uint64_t)(uintptr_t)out, count));
 }
 
 int64_t hound_from_f32(const hound_spec *spec, const float *samples, size_t count, uint8_t *out, size_t capacity, uint64_t *clipped) {
     STACK(16);
-    return s64(f71_hound_from_f32(sp, (uint64_t)(uintptr_t)spec, (uint64_t)(uintptr_t)samples, count, (uint64_t)(uintptr_t)out, capacity, (uint64_t)(uintptr_t)clipped));
+    return s64(f70_hound_from_f32(sp, (uint64_t)(uintptr_t)spec, (uint64_t)(uintptr_t)samples, count, (uint64_t)(uintptr_t)out, capacity, (uint64_t)(uintptr_t)clipped));
 }
 
 int64_t hound_to_f64(const hound_spec *spec, const uint8_t *bytes, size_t length, double *out, size_t count) {
-    return s64(f115_hound_to_f64((uint64_t)(uintptr_t)spec, (uint64_t)(uintptr_t)bytes, length, (uint64_t)(uintptr_t)out, count));
+    return s64(f114_hound_to_f64((uint64_t)(uintptr_t)spec, (uint64_t)(uintptr_t)bytes, length, (uint64_t)(uintptr_t)out, count));
 }
 
 int64_t hound_from_f64(const hound_spec *spec, const double *samples, size_t count, uint8_t *out, size_t capacity, uint64_t *clipped) {
     STACK(16);
-    return s64(f73_hound_from_f64(sp, (uint64_t)(uintptr_t)spec, (uint64_t)(uintptr_t)samples, count, (uint64_t)(uintptr_t)out, capacity, (uint64_t)(uintptr_t)clipped));
+    return s64(f72_hound_from_f64(sp, (uint64_t)(uintptr_t)spec, (uint64_t)(uintptr_t)samples, count, (uint64_t)(uintptr_t)out, capacity, (uint64_t)(uintptr_t)clipped));
 }
 
 int64_t hound_dither_f32(const hound_spec *spec, const float *samples, size_t count, uint64_t *state, uint8_t *out, size_t capacity, uint64_t *clipped) {
     STACK(16);
-    return s64(f53_hound_dither_f32(sp, (uint64_t)(uintptr_t)spec, (uint64_t)(uintptr_t)samples, count, (uint64_t)(uintptr_t)state, (uint64_t)(uintptr_t)out, capacity, (uint64_t)(uintptr_t)clipped));
+    return s64(f52_hound_dither_f32(sp, (uint64_t)(uintptr_t)spec, (uint64_t)(uintptr_t)samples, count, (uint64_t)(uintptr_t)state, (uint64_t)(uintptr_t)out, capacity, (uint64_t)(uintptr_t)clipped));
 }
 
 int64_t hound_dither_f64(const hound_spec *spec, const double *samples, size_t count, uint64_t *state, uint8_t *out, size_t capacity, uint64_t *clipped) {
     STACK(16);
-    return s64(f55_hound_dither_f64(sp, (uint64_t)(uintptr_t)spec, (uint64_t)(uintptr_t)samples, count, (uint64_t)(uintptr_t)state, (uint64_t)(uintptr_t)out, capacity, (uint64_t)(uintptr_t)clipped));
+    return s64(f54_hound_dither_f64(sp, (uint64_t)(uintptr_t)spec, (uint64_t)(uintptr_t)samples, count, (uint64_t)(uintptr_t)state, (uint64_t)(uintptr_t)out, capacity, (uint64_t)(uintptr_t)clipped));
 }
 
 int64_t hound_f32_to_f64(const float *samples, size_t count, double *out, size_t capacity) {
-    return s64(f65_hound_f32_to_f64((uint64_t)(uintptr_t)samples, count, (uint64_t)(uintptr_t)out, capacity));
+    return s64(f64_hound_f32_to_f64((uint64_t)(uintptr_t)samples, count, (uint64_t)(uintptr_t)out, capacity));
 }
 
 int64_t hound_f64_to_f32(const double *samples, size_t count, float *out, size_t capacity, uint64_t *infinite) {
-    return s64(f67_hound_f64_to_f32((uint64_t)(uintptr_t)samples, count, (uint64_t)(uintptr_t)out, capacity, (uint64_t)(uintptr_t)infinite));
+    return s64(f66_hound_f64_to_f32((uint64_t)(uintptr_t)samples, count, (uint64_t)(uintptr_t)out, capacity, (uint64_t)(uintptr_t)infinite));
 }
 
 int32_t hound_beginning(const hound_spec *spec, uint32_t number, hound_effect *effect) {
     STACK(224);
-    return s32(f35_hound_beginning(sp, (uint64_t)(uintptr_t)spec, (uint32_t)number, (uint64_t)(uintptr_t)effect));
+    return s32(f34_hound_beginning(sp, (uint64_t)(uintptr_t)spec, (uint32_t)number, (uint64_t)(uintptr_t)effect));
 }
 
 int32_t hound_recorder_begin(const hound_spec *spec, hound_recorder *recorder) {
-    return s32(f89_hound_recorder_begin((uint64_t)(uintptr_t)spec, (uint64_t)(uintptr_t)recorder));
+    return s32(f88_hound_recorder_begin((uint64_t)(uintptr_t)spec, (uint64_t)(uintptr_t)recorder));
 }
 
 int32_t hound_recorder_resume(const hound_repair_t *found, uint32_t allowed, hound_recorder *recorder) {
-    return s32(f97_hound_recorder_resume((uint64_t)(uintptr_t)found, (uint32_t)allowed, (uint64_t)(uintptr_t)recorder));
+    return s32(f96_hound_recorder_resume((uint64_t)(uintptr_t)found, (uint32_t)allowed, (uint64_t)(uintptr_t)recorder));
 }
 
 int32_t hound_recorder_write(hound_recorder *recorder, uint64_t samples) {
-    STACK(224);
-    return s32(f99_hound_recorder_write(sp, (uint64_t)(uintptr_t)recorder, samples));
+    STACK(176);
+    return s32(f98_hound_recorder_write(sp, (uint64_t)(uintptr_t)recorder, samples));
 }
 
 void hound_recorder_checkpoint(hound_recorder *recorder) {
-    STACK(224);
-    f91_hound_recorder_checkpoint(sp, (uint64_t)(uintptr_t)recorder);
+    STACK(176);
+    f90_hound_recorder_checkpoint(sp, (uint64_t)(uintptr_t)recorder);
 }
 
 int64_t hound_recorder_frames_left(const hound_recorder *recorder) {
-    return s64(f93_hound_recorder_frames_left((uint64_t)(uintptr_t)recorder));
+    return s64(f92_hound_recorder_frames_left((uint64_t)(uintptr_t)recorder));
 }
 
 int32_t hound_recorder_next(hound_recorder *recorder) {
     STACK(304);
-    return s32(f95_hound_recorder_next(sp, (uint64_t)(uintptr_t)recorder));
+    return s32(f94_hound_recorder_next(sp, (uint64_t)(uintptr_t)recorder));
 }
