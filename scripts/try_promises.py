@@ -2,11 +2,8 @@
 """Tries the mutants that have a twin, among them those of the table in docs/PROVING.md: a mutant is a deliberate bug,
 and the prover has to reject it; its twin is a harmless edit of the same place, which the prover has to accept: so a
 mutant is rejected for what it does, and not for any change there. Only the functions with an edit are checked, and what
-they call in their crate, over the libraries below: those that `rt ci` leaves, or else what `rt lib` makes.
-
-The edits of a crate are tried at once, because a proof rests on the contracts of what a function calls and not on their
-bodies: all twins, and then the mutants, in groups of which no two change the same function. Where the prover doesn't
-say of all of them what it should, each is tried alone.
+they call in their crate, over the libraries below: those that `rt ci` leaves, or else what `rt lib` makes. All twins of
+a crate are tried at once, a mutant alone.
 
 usage: scripts/try_promises.py [LOG]
 LOG is what an `rt ci` that is running says: each crate waits until those below it are proved.
@@ -141,27 +138,6 @@ def tried(edits, crate, called, work):
         shutil.rmtree(folder)
 
 
-def apart(edits, crate):
-    """Edits in groups, no two of which change the same function."""
-    groups = []
-    for edit in edits:
-        with tempfile.TemporaryDirectory(prefix="hound_promises_") as work:
-            shutil.copytree(os.path.join(crate, "src"), os.path.join(work, "src"))
-            function = changed(edit, work)
-        group = next((group for group in groups if function not in group), None)
-        if group is None:
-            groups.append(group := {})
-        group[function] = edit
-    return [list(group.values()) for group in groups]
-
-
-def verdicts(edits, crate, called, work, wanted):
-    """What the prover says of each of these edits: tried at once, or alone where it says anything but what is wanted."""
-    if tried(edits, crate, called, work) == wanted:
-        return {edit: wanted for edit in edits}
-    return {edit: tried([edit], crate, called, work) for edit in edits}
-
-
 def main():
     log = sys.argv[1] if len(sys.argv) > 1 else None
     count = rejected = accepted = 0
@@ -172,22 +148,21 @@ def main():
             continue
         called = words(name, static, libraries, log)
         count += len(twins)
-        mutants = [twin.replace("/twins/", "/mutants/") for twin in twins]
         with tempfile.TemporaryDirectory(prefix="hound_promises_") as work:
-            said = verdicts(twins, crate, called, work, "proved")
-            for group in apart(mutants, crate):
-                said |= verdicts(group, crate, called, work, "not proved")
-        for twin, mutant in zip(twins, mutants):
-            edit = os.path.basename(twin)[: -len(".edit")]
-            if said[twin] == "proved":
-                accepted += 1
-            else:
-                print(f"promises: {name}: {edit}: NOT ACCEPTED as a twin: {said[twin]}", flush=True)
-            if said[mutant] == "not proved":
-                rejected += 1
-                print(f"promises: {name}: rejected {edit}", flush=True)
-            else:
-                print(f"promises: {name}: {edit}: NOT REJECTED: {said[mutant]}", flush=True)
+            of_all = tried(twins, crate, called, work)
+            for twin in twins:
+                edit = os.path.basename(twin)[: -len(".edit")]
+                of_twin = of_all if of_all == "proved" else tried([twin], crate, called, work)
+                if of_twin == "proved":
+                    accepted += 1
+                else:
+                    print(f"promises: {name}: {edit}: NOT ACCEPTED as a twin: {of_twin}", flush=True)
+                of_mutant = tried([twin.replace("/twins/", "/mutants/")], crate, called, work)
+                if of_mutant == "not proved":
+                    rejected += 1
+                    print(f"promises: {name}: rejected {edit}", flush=True)
+                else:
+                    print(f"promises: {name}: {edit}: NOT REJECTED: {of_mutant}", flush=True)
     print(f"promises: {rejected} of {count} mutants rejected, {accepted} of {count} twins accepted")
     sys.exit(not count or rejected < count or accepted < count)
 
