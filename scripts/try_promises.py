@@ -1,14 +1,19 @@
 #!/usr/bin/env python3
-"""Tries the mutants that have a twin, among them those of the table in docs/PROVING.md: a mutant is a deliberate bug,
-and the prover has to reject it; its twin is a harmless edit of the same place, which the prover has to accept: so a
-mutant is rejected for what it does, and not for any change there. Only the functions with an edit are checked, and what
-they call in their crate, over the libraries below: those that `rt ci` leaves, or else what `rt lib` makes. All twins of
-a crate are tried at once, a mutant alone.
+"""Tries the mutants that have a twin: a mutant is a deliberate bug, and the prover has to reject it; its twin is a
+harmless edit of the same place, which the prover has to accept: so a mutant is rejected for what it does, and not for
+any change there. Only the functions with an edit are checked, and what they call in their crate, over the libraries
+below: those that `rt ci` leaves, or else what `rt lib` makes.
 
-usage: scripts/try_promises.py [LOG]
+All twins of a crate are tried at once, and so are its mutants, as long as each is in another function: the prover goes
+by the contracts of what a function calls. But where a function that it calls isn't proved, the prover doesn't judge it,
+so it is tried again without those edits that have been judged.
+
+usage: scripts/try_promises.py [--beside LOG] [CRATE..]     (every crate with twins where none is named)
 LOG is what an `rt ci` that is running says: each crate waits until those below it are proved.
 
 It writes a line for each mutant, and last 'promises: N of N mutants rejected, N of N twins accepted'."""
+import argparse
+import dataclasses
 import glob
 import os
 import re
@@ -33,27 +38,46 @@ def below():
     return {name: (bool(static), libraries.split()) for name, static, libraries in lines}
 
 
-def changed(edit, folder):
-    """Applies an edit to a copy of its crate. Returns the function that it is in, as the prover names it."""
-    with open(edit) as file:
+@dataclasses.dataclass(frozen=True)
+class Edit:
+    """An edit of a crate: its file, the texts that change, and the function that they are in, as the prover names it."""
+
+    name: str
+    file: str
+    pairs: tuple
+    function: str
+
+    def apply(self, folder):
+        """Makes the edit in a copy of its crate."""
+        path = os.path.join(folder, self.file)
+        with open(path) as file:
+            text = file.read()
+        for old, new in self.pairs:
+            if text.count(old) != 1:
+                sys.exit(f"promises: {self.name}: its text isn't in the file exactly once")
+            text = text.replace(old, new)
+        with open(path, "w") as file:
+            file.write(text)
+
+
+def read_edit(path, crate):
+    """The edit that a file describes."""
+    with open(path) as file:
         lines = [line.partition(": ") for line in file.read().splitlines()]
-    for word, _, words in lines:
-        if word == "file":
-            path = os.path.join(folder, words)
-        elif word == "old":
-            old = words
-        elif word == "new":
-            with open(path) as file:
-                before, found, after = file.read().partition(old)
-            if not found or old in after:
-                sys.exit(f"promises: {edit}: its text isn't in the file exactly once")
-            with open(path, "w") as file:
-                file.write(before + words + after)
-    margin, function = FUNCTION.findall(before)[-1]
+    found = {word: [words for other, _, words in lines if other == word] for word in ("file", "old", "new")}
+    [file], pairs = found["file"], tuple(zip(found["old"], found["new"], strict=True))
+    with open(os.path.join(crate, file)) as text:
+        before = text.read().partition(pairs[-1][0])[0]
+    return Edit(os.path.basename(path)[: -len(".edit")], file, pairs, function_at_end(before, file))
+
+
+def function_at_end(text, file):
+    """The function in which a text of a file ends, as the prover names it."""
+    margin, function = FUNCTION.findall(text)[-1]
     if not margin:
-        module = os.path.basename(path)[: -len(".rt")]
+        module = os.path.basename(file)[: -len(".rt")]
         return function if module == "lib" else f"{module}::{function}"
-    of_trait, of_type = BLOCK.findall(before)[-1]
+    of_trait, of_type = BLOCK.findall(text)[-1]
     return f"{of_type}{of_trait.replace('Drop', '')}::{function}"
 
 
@@ -97,8 +121,19 @@ def words(name, static, libraries, log):
     return found + ["--crate-type", "staticlib"] * static
 
 
+NOT_JUDGED = "not judged, since a function that it calls isn't proved"
+
+# What the prover says of a function, and what that means.
+VERDICTS = {
+    "proved": "proved",
+    "not proved": "not proved",
+    "no proof: it calls": NOT_JUDGED,
+    "no proof": "not proved",
+}
+
+
 def says(words, functions, folder, kept):
-    """What the prover says of functions of a crate: 'proved' if all are, 'not proved' if none is, or the end of all that where it is neither."""
+    """What the prover says of each of these functions; where it has no verdict on one, the end of all that it says."""
     logic = [
         "--antt-project",
         f"{KIT}/rattle/logic/antt-project.json",
@@ -115,54 +150,67 @@ def says(words, functions, folder, kept):
         stderr=subprocess.STDOUT,
         text=True,
     )
-    verdicts = [
-        set(re.findall(rf"^fn [\w:]*\b{function}: (proved|not proved|no proof)", run.stdout, flags=re.M))
-        for function in functions
-    ]
-    if all(verdict == {"proved"} for verdict in verdicts) and re.search(
-        r"^only=(\d+) proved=\1$", run.stdout, flags=re.M
-    ):
-        return "proved"
-    if all(verdict in ({"not proved"}, {"no proof"}) for verdict in verdicts):
-        return "not proved"
-    return f"status {run.returncode}\n{run.stdout[-2000:]}"
+    verdicts = {}
+    for function in functions:
+        found = set(re.findall(rf"^fn [\w:]*\b{function}: ({'|'.join(VERDICTS)})", run.stdout, flags=re.M))
+        verdicts[function] = VERDICTS[found.pop()] if len(found) == 1 else None
+    if None in verdicts.values() or not re.search(r"^only=\d+ proved=\d+$", run.stdout, flags=re.M):
+        return dict.fromkeys(functions, f"status {run.returncode}\n{run.stdout[-2000:]}")
+    return verdicts
 
 
 def tried(edits, crate, called, work):
-    """What the prover says of a crate with these edits."""
+    """What the prover says of the function of each of these edits, once all of them are made in a copy of the crate."""
     folder = os.path.join(work, os.path.basename(crate))
     shutil.copytree(crate, folder, ignore=shutil.ignore_patterns("out"))
     try:
-        return says(called, {changed(edit, folder) for edit in edits}, folder, os.path.join(work, "kept"))
+        for edit in edits:
+            edit.apply(folder)
+        verdicts = says(called, {edit.function for edit in edits}, folder, os.path.join(work, "kept"))
     finally:
         shutil.rmtree(folder)
+    return {edit: verdicts[edit.function] for edit in edits}
+
+
+def judged(edits, crate, called, work):
+    """What the prover says of the function of each of these edits, as many of which are made at once as it can judge."""
+    verdicts = {}
+    while len(verdicts) < len(edits):
+        left = {edit.function: edit for edit in edits if edit not in verdicts}
+        found = tried(left.values(), crate, called, work)
+        one = next(iter(found))
+        of_others = {edit: verdict for edit, verdict in found.items() if verdict != NOT_JUDGED}
+        verdicts |= of_others or tried([one], crate, called, work)
+    return verdicts
 
 
 def main():
-    log = sys.argv[1] if len(sys.argv) > 1 else None
+    parser = argparse.ArgumentParser()
+    parser.add_argument("--beside", metavar="LOG")
+    parser.add_argument("crates", metavar="CRATE", nargs="*")
+    given = parser.parse_args()
     count = rejected = accepted = 0
     for name, (static, libraries) in below().items():
         crate = os.path.join(TOP, "crates", name)
         twins = sorted(glob.glob(os.path.join(crate, "twins", "*.edit")))
-        if not twins:
+        if not twins or given.crates and name not in given.crates:
             continue
-        called = words(name, static, libraries, log)
+        called = words(name, static, libraries, given.beside)
         count += len(twins)
         with tempfile.TemporaryDirectory(prefix="hound_promises_") as work:
-            of_all = tried(twins, crate, called, work)
-            for twin in twins:
-                edit = os.path.basename(twin)[: -len(".edit")]
-                of_twin = of_all if of_all == "proved" else tried([twin], crate, called, work)
-                if of_twin == "proved":
+            edits = [read_edit(twin, crate) for twin in twins]
+            for edit, verdict in judged(edits, crate, called, work).items():
+                if verdict == "proved":
                     accepted += 1
                 else:
-                    print(f"promises: {name}: {edit}: NOT ACCEPTED as a twin: {of_twin}", flush=True)
-                of_mutant = tried([twin.replace("/twins/", "/mutants/")], crate, called, work)
-                if of_mutant == "not proved":
+                    print(f"promises: {name}: {edit.name}: NOT ACCEPTED as a twin: {verdict}", flush=True)
+            edits = [read_edit(twin.replace("/twins/", "/mutants/"), crate) for twin in twins]
+            for edit, verdict in judged(edits, crate, called, work).items():
+                if verdict == "not proved":
                     rejected += 1
-                    print(f"promises: {name}: rejected {edit}", flush=True)
+                    print(f"promises: {name}: rejected {edit.name}", flush=True)
                 else:
-                    print(f"promises: {name}: {edit}: NOT REJECTED: {of_mutant}", flush=True)
+                    print(f"promises: {name}: {edit.name}: NOT REJECTED: {verdict}", flush=True)
     print(f"promises: {rejected} of {count} mutants rejected, {accepted} of {count} twins accepted")
     sys.exit(not count or rejected < count or accepted < count)
 
