@@ -602,9 +602,9 @@ def faulty_finds_no_wrong_run(example):
 
 
 # The sums are those that hound 3.5.1 gives, and one more where the RIFF size counts a pad byte,
-# which is a byte more too.
-@check("hound_bench")
-def cases_give_their_sums(bench):
+# which is a byte more too. The time comes before the sum.
+@check("hound_examples")
+def the_bench_gives_the_sums_of_its_cases(example):
     in_memory = """write_i8_mem 5 50 2609
 write_i16_mem 5 54 3036
 write_i24_mem 5 84 4986
@@ -612,8 +612,6 @@ write_i32_mem 5 88 5487
 write_f32_mem 5 88 5361
 write_i16_mem_grow 5 54 3036
 batch_i16_mem 1025 2094 262975
-session_i16_mem 5 54 3036
-session_i16_mem 4099 8236 1045841
 read_i8_mem 5 50 44
 read_i16_mem 5 54 11816
 read_i24_mem 5 84 3025599
@@ -633,31 +631,25 @@ seek_f32_file 1002 4008 1610296371528"""
     for cases, path in [(in_memory, "-"), (on_disk, path_of("bench"))]:
         for line in cases.split("\n"):
             name, count, *_ = line.split()
-            same(bench.run([name, count, path, "untimed"]), (0, line.encode() + b"\n", b""))
+            status, output, errors = example.run(["bench", name, count, path])
+            parts = output.decode().split(" ")
+            same((status, errors, parts[3].isdecimal()), (0, b"", True))
+            same(" ".join(parts[:3] + parts[4:]), line + "\n")
 
 
-# The time comes before the sum.
-@check("hound_bench")
-def the_time_is_printed(bench):
-    status, output, _ = bench.run(["read_i16_mem", "3", "-"])
-    parts = output.decode().split(" ")
-    same((status, len(parts), parts[:3], parts[4]), (0, 5, ["read_i16_mem", "3", "50"], "-9563\n"))
-
-
-@check("hound_bench")
-def other_words_of_the_bench_are_rejected(bench):
-    usage = b"usage: hound_bench CASE N FILE [untimed]\n"
-    for words, line in [
-        ([], usage),
-        (["open_mem", "1"], usage),
-        (["open_mem", "1", "-", "timed"], usage),
-        (["write_i12_mem", "1", "-"], b"unknown case: write_i12_mem\n"),
-        (["open_mem", "-1", "-"], b"bad number: -1\n"),
-        (["read_i16_file", "1", "-"], b"read_i16_file needs a file\n"),
+@check("hound_examples")
+def other_words_of_the_bench_are_rejected(example):
+    for words in [
+        [],
+        ["open_mem", "1"],
+        ["open_mem", "1", "-", "more"],
+        ["write_i12_mem", "1", "-"],
+        ["open_mem", "-1", "-"],
+        ["read_i16_file", "1", "-"],
     ]:
-        same(bench.run(words), (2, b"", line), words)
+        same(example.run(["bench", *words]), (2, b"", b"usage: bench CASE N FILE\n"), words)
     # A file in no folder.
-    status, output, errors = bench.run(["write_i16_file", "1", os.path.join(path_of("none"), "a.wav")])
+    status, output, errors = example.run(["bench", "write_i16_file", "1", os.path.join(path_of("none"), "a.wav")])
     same((status, output, errors[-1:]), (1, b"", b"\n"))
 
 

@@ -1,11 +1,11 @@
 #!/usr/bin/env python3
-"""Measures the cases of crates/hound_bench beside hound 3.5.1 and libsndfile, and the packages for Python and
-JavaScript beside soundfile and a plain loop. It writes the figures to docs/speed.tsv, of which scripts/speed_picture.py
-makes docs/speed.svg.
+"""Measures the cases of `bench` (crates/hound_examples/src/bench) beside hound 3.5.1 and libsndfile, and the packages
+for Python and JavaScript beside soundfile and a plain loop. It writes the figures to docs/speed.tsv, of which
+scripts/speed_picture.py makes docs/speed.svg.
 
 usage: scripts/speed/measure.py ORIGINAL [--rounds N] [--samples N] [--no-instructions] [--write] [CASE...]
 
-ORIGINAL is the folder of the published crate. `crates/hound_bench` and `crates/hound_tool` have to be
+ORIGINAL is the folder of the published crate. `crates/hound_examples` and `crates/hound_tool` have to be
 built (`rt run` there, or ./test).
 The original is built twice by cargo: as a release, and linked whole (lto = "fat", one codegen unit).
 All programs run in turn, N rounds (31), and the best time of each counts. The sums over what was
@@ -219,15 +219,17 @@ def main():
         words.remove("--write")
     if not words:
         sys.exit(__doc__)
-    ours = os.path.join(TOP, "crates", "hound_bench", "out", "hound_bench")
+    examples = os.path.join(TOP, "crates", "hound_examples", "out", "hound_examples")
     cases = words[1:] or SINGLE + BLOCKS + PROGRAMS + PYTHON + NODE
-    if not os.path.exists(ours) and not set(cases) <= set(BESIDE):
-        sys.exit("measure: build crates/hound_bench first: `rt run` there")
+    if not os.path.exists(examples) and not set(cases) <= set(BESIDE):
+        sys.exit("measure: build crates/hound_examples first: `rt run` there")
     tool = os.path.join(TOP, "crates", "hound_tool", "out", "hound_tool")
     with tempfile.TemporaryDirectory(prefix="hound_speed_") as folder:
         if not set(cases) <= set(BESIDE):
             release, whole = build_original(folder, words[0])
             sndfile = build_sndfile(folder)
+        ours = os.path.join(folder, "bench")  # The name says which example runs.
+        os.symlink(examples, ours)
         path = os.path.join(folder, "samples.wav")
         figures = os.path.join(TOP, "docs", "speed.tsv")
         with open(figures) as file:

@@ -1,4 +1,4 @@
-// The workloads of crates/hound_bench over the original crate, in the same words: CASE N FILE. It
+// The workloads of `bench` in crates/hound_examples over the original crate, in the same words: CASE N FILE. It
 // prints the same line, so the sums over what was read or written can be compared. A case of blocks
 // is the original's iterator, or its `write_sample`, since it has no blocks.
 use hound::{Sample, SampleFormat, WavReader, WavSpec, WavWriter};

@@ -1,4 +1,4 @@
-/* The cases of blocks of crates/hound_bench over libsndfile, in the same words: CASE N FILE. It
+/* The cases of blocks of `bench` in crates/hound_examples over libsndfile, in the same words: CASE N FILE. It
    prints the same line. Its sums over samples that were read agree with the others' (samples of 8
    bits are read as `short`, and come with 8 more low bits); those over written bytes are 0, since
    libsndfile writes another header for some formats. */

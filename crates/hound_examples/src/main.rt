@@ -4,6 +4,7 @@
 #![tactic(auto)]
 
 mod append;
+mod bench;
 mod convert;
 mod faulty;
 mod levels;
@@ -21,6 +22,7 @@ fn main(rt: HostRuntime) -> hound::Result<ExitCode> {
     };
     match file_name(program.as_str()) {
         "append" => append::main(rt),
+        "bench" => bench::main(rt),
         "convert" => convert::main(rt),
         "faulty" => faulty::main(rt),
         "levels" => levels::main(rt),

@@ -1,6 +1,6 @@
-//! Tests over the public items of `hound` and of the program alone, for what rows (`hound_rows`) can't do:
-//! allocations that fail, blocks of a source whose calls fail, the words that clauses import, the program, and the
-//! examples of the documentation.
+//! Tests for what rows (`hound_rows`) can't do: allocations that fail, blocks of a source whose calls fail, the words
+//! that clauses import, the program, and the examples of the documentation, over the public items of `hound` and of the
+//! program alone; and those of the layers below, in `layers`.
 #![tactic(auto)]
 
 #[cfg(test)]
@@ -9,6 +9,8 @@ mod answers;
 mod causes;
 #[cfg(test)]
 mod documented;
+#[cfg(test)]
+mod layers;
 #[cfg(test)]
 mod lent;
 #[cfg(test)]

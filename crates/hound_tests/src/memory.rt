@@ -46,16 +46,6 @@ fn take_all_but(alloc: Global, room: usize) -> Result<Vec<Vec<u8>>, Fail> {
     Ok(blocks)
 }
 
-// What a call returns with only this much memory.
-fn without<T, F: FnOnce() -> T>(alloc: Global, room: usize, call: F) -> Result<T, Fail>
-    requires { F.IsAlwaysCallable call }
-{
-    let blocks = take_all_but(alloc, room)?;
-    let answer = call();
-    drop(blocks);
-    Ok(answer)
-}
-
 // With enough memory it is the header that is made with all of it.
 #[test]
 fn a_header_of_unknown_length(rt: HostRuntime) -> Result<(), Fail> {
@@ -66,7 +56,9 @@ fn a_header_of_unknown_length(rt: HostRuntime) -> Result<(), Fail> {
         (10, 68, "ok"),
     ] {
         let spec = integers(channels, 16000, 16, 2).spec;
-        let header = without(alloc, room, || spec.into_header_for_infinite_file(alloc))?;
+        let blocks = take_all_but(alloc, room)?;
+        let header = spec.into_header_for_infinite_file(alloc);
+        drop(blocks);
         assert_eq!(rt;
             name_of_answer(&header),
             name,
@@ -190,7 +182,9 @@ impl Script {
     fn holds(&self, alloc: Global) -> Result<bool, Fail> {
         let mut writer = WavWriter::new(empty_tape(alloc), sixteen(1))?;
         for (room, next, name, len) in self.acts {
-            let answer = without(alloc, *room, || take(&mut writer, alloc, *next))?;
+            let blocks = take_all_but(alloc, *room)?;
+            let answer = take(&mut writer, alloc, *next);
+            drop(blocks);
             if name_of_answer(&answer) != *name || writer.len() != *len {
                 return Ok(false);
             }
@@ -211,7 +205,9 @@ fn a_writer_without_memory(rt: HostRuntime) -> Result<(), Fail> {
 fn a_block_is_read_without_memory(rt: HostRuntime) -> Result<(), Fail> {
     let mut reader = WavReader::new(FOUR_SAMPLES.as_slice())?;
     let mut samples = [0i16; 5];
-    let answer = without(rt.alloc(), 0, || reader.read_samples(&mut samples))?;
+    let blocks = take_all_but(rt.alloc(), 0)?;
+    let answer = reader.read_samples(&mut samples);
+    drop(blocks);
     let is_read = matches!(answer, (4, Ok(())));
     assert!(rt; is_read && samples == [2, -3, 5, -7, 0]);
     Ok(())
@@ -220,7 +216,9 @@ fn a_block_is_read_without_memory(rt: HostRuntime) -> Result<(), Fail> {
 #[test]
 fn a_writer_begins_over_a_tape_that_cannot_grow(rt: HostRuntime) -> Result<(), Fail> {
     let alloc = rt.alloc();
-    let rejected = without(alloc, 0, || WavWriter::new(empty_tape(alloc), sixteen(1)))?;
+    let blocks = take_all_but(alloc, 0)?;
+    let rejected = WavWriter::new(empty_tape(alloc), sixteen(1));
+    drop(blocks);
     assert_eq!(rt; name_of_answer(&rejected), NO_MEMORY);
     Ok(())
 }
@@ -237,7 +235,9 @@ fn put_more<M: Medium>(medium: &mut M) -> io::Result<usize> {
 fn tape_grows(alloc: Global, place: u32) -> Result<bool, Fail> {
     let mut tape = tape_of(alloc, &FOUR_SAMPLES)?;
     tape.go(place as u64)?;
-    let answer = without(alloc, 0, || put_more(&mut tape))?;
+    let blocks = take_all_but(alloc, 0)?;
+    let answer = put_more(&mut tape);
+    drop(blocks);
     let stays = tape.bytes() == FOUR_SAMPLES.as_slice();
     let count = put_more(&mut tape)?;
     Ok(
@@ -268,15 +268,16 @@ fn bytes_of_now(journal: &Journal, alloc: Global) -> hound::Result<Vec<u8>> {
 fn a_journal_that_begins(rt: HostRuntime) -> Result<(), Fail> {
     let alloc = rt.alloc();
     let bytes = FOUR_SAMPLES.to_vec(alloc)?;
-    let both = || (
-        Journal::new(alloc, bytes),
-        Journal::new(alloc, Vec::new(alloc)),
-    );
-    let (rejected, empty) = without(alloc, 0, both)?;
+    let blocks = take_all_but(alloc, 0)?;
+    let rejected = Journal::new(alloc, bytes);
+    let empty = Journal::new(alloc, Vec::new(alloc));
+    drop(blocks);
     assert!(rt; matches!(rejected, Err(Error::OutOfMemory)) && empty.is_ok());
     let bytes = FOUR_SAMPLES.to_vec(alloc)?;
-    let journal = without(alloc, 52, || Journal::new(alloc, bytes))??;
-    assert!(rt; bytes_of_now(&journal, alloc)?.as_slice() == FOUR_SAMPLES.as_slice());
+    let blocks = take_all_but(alloc, 52)?;
+    let journal = Journal::new(alloc, bytes);
+    drop(blocks);
+    assert!(rt; bytes_of_now(&journal?, alloc)?.as_slice() == FOUR_SAMPLES.as_slice());
     Ok(())
 }
 
@@ -285,7 +286,9 @@ fn a_journal_that_begins(rt: HostRuntime) -> Result<(), Fail> {
 fn journal_grows(alloc: Global, room: usize, rejections: &mut u32) -> Result<bool, Fail> {
     let mut journal = Journal::new(alloc, FOUR_SAMPLES.to_vec(alloc)?)?;
     journal.go(52)?;
-    let answer = without(alloc, room, || put_more(&mut journal))?;
+    let blocks = take_all_but(alloc, room)?;
+    let answer = put_more(&mut journal);
+    drop(blocks);
     if answer.is_err() {
         *rejections = rejections.saturating_add(1);
         let stays = bytes_of_now(&journal, alloc)?.as_slice() == FOUR_SAMPLES.as_slice();
@@ -319,7 +322,10 @@ fn moments_of(journal: &Journal, alloc: Global) -> Result<[u32; 3], Fail> {
     let whole = bytes_of_now(journal, alloc)?;
     let mut counts = [0u32; 3];
     for kibibytes in 0..48 {
-        let at = match without(alloc, kibibytes * 1024, || bytes_of_now(journal, alloc))? {
+        let blocks = take_all_but(alloc, kibibytes * 1024)?;
+        let answer = bytes_of_now(journal, alloc);
+        drop(blocks);
+        let at = match answer {
             Ok(bytes) => if bytes == whole { 0 } else { 2 },
             Err(Error::OutOfMemory) => 1,
             Err(_) => 2,
@@ -379,11 +385,14 @@ fn open_without(
     room: usize,
 ) -> Result<&'static str, Fail> {
     let alloc = rt.alloc();
-    without(alloc, room, || match opening {
+    let blocks = take_all_but(alloc, room)?;
+    let name = match opening {
         Opening::Open => name_of_answer(&WavReader::open(rt, alloc, path)),
         Opening::Create => name_of_answer(&WavWriter::create(rt, alloc, path, sixteen(1))),
         Opening::Append => name_of_answer(&WavWriter::append(rt, alloc, path)),
-    })
+    };
+    drop(blocks);
+    Ok(name)
 }
 
 // Whether the call over the four samples lacks memory, and the file stays or is empty if it was to

@@ -1,7 +1,7 @@
 // What is timed, over any medium and any reader.
-use crate::batches::write_batches;
-use crate::case::Call;
-use crate::pattern::{Pattern, Summed};
+use crate::bench::batches::write_batches;
+use crate::bench::case::Call;
+use crate::bench::pattern::{Pattern, Summed};
 use hound::{Medium, Result, Source, WavReader, WavWriter};
 use std::alloc::Global;
 use std::io;

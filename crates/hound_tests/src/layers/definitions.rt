@@ -5,7 +5,7 @@ ghost use Rattle.hound_spec.specs.{canonical, header, mask, riff_size};
 ghost use Rattle.hound_sample.specs.{int_container};
 ghost use Rattle.hound_reader.specs.{way_to, container_at};
 ghost use Rattle.hound_walk.specs.{Head, Rejected};
-ghost use Rattle.hound_layer_tests.specs.Rows.{four_samples, four_containers, padded_containers, long_fact, empty_fact, odd_junk, long_fmt, past_the_limit, odd_at_the_limit, even_at_the_limit, fmt_at_the_limit, mono_16, mono_float, stereo_24, counted, AreRead};
+ghost use Rattle.hound_tests.specs.Files.{four_samples, four_containers, padded_containers, long_fact, empty_fact, odd_junk, long_fmt, past_the_limit, odd_at_the_limit, even_at_the_limit, fmt_at_the_limit, mono_16, mono_float, stereo_24, counted, AreRead};
 ghost use Rattle.hound_walk.specs.declared.cause.Cause.TheVariants.{Ended, Format};
 ghost use Rattle.hound_walk.specs.declared.cause.Reason.TheVariants.{NoDataChunk};
 

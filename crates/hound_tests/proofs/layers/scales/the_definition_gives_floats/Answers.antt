@@ -1,6 +1,6 @@
 use Rattle.std.proofs.Common.{refl}
 use lib.Ieee.{size, span, climb, odd, units, round, div, of_int, to_bits}
-use Rattle.hound_layer_tests.proofs.scales.the_definition_gives_floats.Goals as goal
+use Rattle.hound_tests.proofs.layers.scales.the_definition_gives_floats.Goals as goal
 
 pub returns : goal.returns
 unfolding size span climb odd units round div of_int to_bits

@@ -1,8 +1,5 @@
 // The workload of batches.
-ghost use Rattle.std.specs.Prelude.{◌≡◌};
-ghost use Rattle.hound.specs.{IsSixteen};
-
-use crate::pattern::{Pattern, Sixteen};
+use crate::bench::pattern::{Pattern, Sixteen};
 use hound::{Error, Medium, Result, SampleFormat, WavWriter};
 use std::alloc::Global;
 
@@ -15,30 +12,28 @@ fn write_batch<W: Medium>(
     alloc: Global,
     first: u32,
     count: u32,
-) -> Result<()>
-    requires { IsSixteen writer.old.spec_ex }
-    ensures { writer.new.spec_ex ≡ writer.old.spec_ex }
-{
+) -> Result<()> {
+    let spec = writer.spec();
+    if spec.bits_per_sample != 16 || spec.sample_format != SampleFormat::Int {
+        return Err(Error::Unsupported);
+    }
     let mut batch = writer.get_i16_writer(alloc, count)?;
-    let mut index = first;
-    while batch.remaining() > 0 {
-        batch.write_sample(Sixteen::sample(index));
-        index = index.wrapping_add(1);
+    for index in 0..count {
+        if batch.remaining() > 0 {
+            batch.write_sample(Sixteen::sample(first.wrapping_add(index)));
+        }
+    }
+    if batch.remaining() > 0 {
+        return Err(Error::UnfinishedSample);
     }
     batch.flush()
 }
 
 /// Writes this many samples of sixteen bits in batches of 1024, and closes the file.
 pub fn write_batches<W: Medium>(mut writer: WavWriter<W>, alloc: Global, count: u32) -> Result<()> {
-    let spec = writer.spec();
-    if spec.bits_per_sample != 16 || spec.sample_format != SampleFormat::Int {
-        return Err(Error::Unsupported);
-    }
-    let mut first = 0;
-    while first < count {
-        let length = (count - first).min(BATCH);
+    for first in (0..count).step_by(BATCH as usize) {
+        let length = count.saturating_sub(first).min(BATCH);
         write_batch(&mut writer, alloc, first, length)?;
-        first += length;
     }
     writer.finalize()
 }

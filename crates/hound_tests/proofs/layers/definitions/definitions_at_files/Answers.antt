@@ -3,8 +3,8 @@ use Rattle.hound_number.specs.{number}
 use Rattle.hound_spec.specs.{data_tag, fmt_tag, greatest_u32, riff_tag, wave_tag}
 use Rattle.hound_spec.specs.declared.spec.WavSpecEx.{WavSpecEx}
 use Rattle.hound_walk.specs.{Chunk, Chunks, Head, IsChunk, Walk, joined, last_spec, spec_after, chunk_fault, content_fault, fmt_said, wave_format, by_tag, wave_format_pcm, wave_format_extensible}
-use Rattle.hound_layer_tests.specs.Rows.{mono_fmt, float_fmt, fact_tag, four_containers, junk_tag}
-use Rattle.hound_layer_tests.proofs.definitions.definitions_at_files.Goals as goal
+use Rattle.hound_tests.specs.Files.{mono_fmt, float_fmt, fact_tag, four_containers, junk_tag}
+use Rattle.hound_tests.proofs.layers.definitions.definitions_at_files.Goals as goal
 
 -- the length of a chunk below 256
 abbrev length_of : ℕ → List ℕ

@@ -1,11 +1,8 @@
 // Cases from end to end: what is made before, what is timed, and what is checked after it.
-ghost use Rattle.std.specs.Prelude.{◌≡◌, IfOk};
-
-use crate::case::{Call, Case, Kind, Place, Samples, Work};
-use crate::pattern::{Eight, Float, Pattern, Sixteen, ThirtyTwo, TwentyFour};
-use crate::sessions::{SESSION, write_sessions};
-use crate::workloads::{open_often, read_all, seek_often, write_all};
-use hound::{FloatBits, Placed, Result, Step, Tape, WavReader, WavSpec, WavWriter};
+use crate::bench::case::{Call, Case, Kind, Place, Samples, Work};
+use crate::bench::pattern::{Eight, Float, Pattern, Sixteen, ThirtyTwo, TwentyFour};
+use crate::bench::workloads::{open_often, read_all, seek_often, write_all};
+use hound::{FloatBits, Result, Tape, WavReader, WavSpec, WavWriter};
 use std::alloc::Global;
 use std::fs;
 use std::path::Path;
@@ -44,16 +41,13 @@ pub fn measure(rt: &HostRuntime, case: Case, count: u32, path: Path<'_>) -> Resu
             Kind::Float => read::<Float>(rt, samples, place, count, path),
         },
         Work::Seek => seek(rt, place, count, path),
-        Work::Session => write_by_sessions(rt, count),
         Work::Open => open(rt, count),
     }
 }
 
 // An empty tape, or in memory of its full size one of zeros, as long as the file of this many samples
 // will be.
-fn tape_of(alloc: Global, place: Place, spec: WavSpec, count: u32) -> Result<Tape>
-    ensures { IfOk result (λ t. (⟦<Tape as Placed>⟧.state t).place ≡ 0) }
-{
+fn tape_of(alloc: Global, place: Place, spec: WavSpec, count: u32) -> Result<Tape> {
     let mut bytes = Vec::new(alloc);
     if matches!(place, Place::Memory) {
         let header = spec.into_header_for_infinite_file(alloc)?;
@@ -180,22 +174,6 @@ fn seek(rt: &HostRuntime, place: Place, count: u32, path: Path<'_>) -> Result<Me
         nanoseconds: start.elapsed(rt)?.as_nanos(),
         check,
     })
-}
-
-fn write_by_sessions(rt: &HostRuntime, count: u32) -> Result<Measured> {
-    let steps: Vec<Step> = (0..SESSION)
-        .map(|index| Step::Whole(Sixteen::sample(index) as i32))
-        .collect(rt.alloc())?;
-    let mut tape = tape_of(
-        rt.alloc(),
-        Place::Memory,
-        Sixteen::spec(1),
-        count.min(SESSION),
-    )?;
-    let start = Instant::now(rt)?;
-    write_sessions(rt.alloc(), &mut tape, &steps, count)?;
-    let time = start.elapsed(rt)?;
-    Ok(written(tape.bytes(), time.as_nanos()))
 }
 
 // The small file has sixteen samples.

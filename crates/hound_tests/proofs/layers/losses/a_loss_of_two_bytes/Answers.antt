@@ -1,7 +1,7 @@
 use Rattle.std.proofs.Common.{◌≡◌, ℕ, zero, suc, ◌<◌, ◌≤◌, List, [], ◌∷◌, length, refl, arith}
 use Rattle.hound_medium.specs.{moment}
 use Rattle.hound_durable.specs.{SurvivesLoss, byte_at}
-use Rattle.hound_layer_tests.proofs.losses.a_loss_of_two_bytes.Goals as goal
+use Rattle.hound_tests.proofs.layers.losses.a_loss_of_two_bytes.Goals as goal
 
 abbrev zeros : List ℕ
 zeros = 0 ∷ 0 ∷ 0 ∷ 0 ∷ []

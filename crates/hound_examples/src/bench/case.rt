@@ -60,9 +60,6 @@ pub enum Work {
     /// The requested number of seeks in a file, to each thousandth frame in turn, with a sample read
     /// there.
     Seek,
-    /// A file of its full size, written by a session with a step for each sample. Further sessions
-    /// write it anew until all samples are written.
-    Session,
     /// A small file, opened as often as requested.
     Open,
 }
@@ -87,7 +84,6 @@ impl Case {
         };
         let work = match (name, place) {
             ("open", Place::Memory) => Work::Open,
-            ("session_i16", Place::Memory) => Work::Session,
             ("seek_f32", _) => Work::Seek,
             ("batch_i16", _) => Work::Write(samples_of(Call::Batch, "i16")?),
             _ => match name.split_once("_")? {
