@@ -1,7 +1,8 @@
 // Files on disk. What is done to a file is a row of a table (`ROWS`).
 use hound::RepairState::{self, CutOff, HasChunksAfterData, Whole};
 use hound::{
-    Medium, SyncedFile, WavReader, WavWriter, find_damage_in_file, repair_file, repair_file_to_end,
+    Medium, SyncedFile, WavReader, WavSpecEx, WavWriter, find_damage_in_file, repair_file,
+    repair_file_to_end,
 };
 use hound_callers::{record_and_read, samples_of};
 use hound_commands::run_append;
@@ -362,23 +363,31 @@ fn a_failed_sync_is_remembered_and_a_write_is_tried_again(rt: HostRuntime) -> Re
 const WIDE: &[u8] = b"RIFF\x3c\0\0\0WAVEfmt \x28\0\0\0\xfe\xff\x01\0\x44\xac\0\0\x10\xb1\x02\0\
     \x04\0\x20\0\x16\0\x18\0\x01\0\0\0\x01\0\0\0\0\0\x10\0\x80\0\0\xaa\0\x38\x9b\x71data\0\0\0\0";
 
+// Whether a writer of this spec creates the file of it, which a reader finds.
+fn create_wide(
+    rt: &HostRuntime,
+    path: Path<'_>,
+    wide: WavSpecEx,
+    is_durable: bool,
+) -> hound::Result<bool> {
+    let begun = if is_durable {
+        WavWriter::create_durable_with_spec_ex(rt, rt.alloc(), path, wide)?.spec_ex()
+    } else {
+        WavWriter::create_with_spec_ex(rt, rt.alloc(), path, wide)?.spec_ex()
+    };
+    let found = WavReader::open(rt, rt.alloc(), path)?.spec_ex();
+    let bytes = fs::read(rt, path)?;
+    Ok((begun, found) == (wide, wide) && bytes.as_slice() == WIDE)
+}
+
 #[test]
 fn a_file_keeps_the_width_of_its_containers(rt: HostRuntime) -> Result<(), Fail> {
     let path = path_of(&rt)?;
     let wide = integers(1, 44100, 24, 4);
-    let begun = WavWriter::create_with_spec_ex(&rt, rt.alloc(), path.as_path(), wide)?.spec_ex();
-    let found = WavReader::open(&rt, rt.alloc(), path.as_path())?.spec_ex();
-    let created = fs::read(&rt, path.as_path())?;
-    let durable = WavWriter::create_durable_with_spec_ex(
-        &rt,
-        rt.alloc(),
-        path.as_path(),
-        wide,
-    )?.spec_ex();
-    let synced = fs::read(&rt, path.as_path())?;
+    let created = create_wide(&rt, path.as_path(), wide, false)?;
+    let durable = create_wide(&rt, path.as_path(), wide, true)?;
     fs::remove_file(&rt, path.as_path())?;
-    assert_eq!(rt; (begun, found, durable), (wide, wide, wide));
-    assert_eq!(rt; (created.as_slice(), synced.as_slice()), (WIDE, WIDE));
+    assert_eq!(rt; (created, durable), (true, true));
     Ok(())
 }
 

@@ -8,7 +8,7 @@ use hound_callers::{
     record_batch, record_by_effects, record_checkpoints, record_in_parts, record_steps, samples_of,
     write_if_short,
 };
-use hound_test_helpers::{FOUR_SAMPLES, empty_tape, integers, sixteen, tape_of};
+use hound_test_helpers::{FOUR_SAMPLES, empty_tape, integers, sixteen, tape_of, without_medium};
 use std::alloc::Global;
 use std::test::Fail;
 
@@ -39,7 +39,7 @@ fn read_back(alloc: Global, journal: &Journal) -> hound::Result<Vec<i16>> {
 
 fn records(alloc: Global, blocks: &[&[Twelve]]) -> hound::Result<bool> {
     let recorded = record(empty_tape(alloc), integers(1, 44100, 16, 2), blocks);
-    let tape = recorded.map_err(|(_, error)| error)?;
+    let tape = without_medium(recorded)?;
     holds(alloc, tape.bytes(), &ACCEPTED)
 }
 
@@ -52,7 +52,7 @@ const APPENDED: &[u8] = b"RIFF\x40\0\0\0WAVEfmt \x10\0\0\0\x01\0\x01\0\x44\xac\0
     \x01\0\xfe\xff\x03\0\xff\x07\0\xf8\x05\0";
 
 fn appends(alloc: Global, blocks: &[&[Twelve]]) -> Result<bool, Fail> {
-    let tape = append_blocks(tape_of(alloc, TAGGED)?, blocks).map_err(|(_, error)| error)?;
+    let tape = without_medium(append_blocks(tape_of(alloc, TAGGED)?, blocks))?;
     Ok(tape.bytes() == APPENDED)
 }
 
@@ -307,7 +307,7 @@ fn ends_durably(alloc: Global) -> hound::Result<bool> {
 
 fn packs(alloc: Global) -> hound::Result<bool> {
     let packed = pack_one(Tape::new(Vec::new(alloc)), integers(1, 44100, 16, 2), -301);
-    let tape = packed.map_err(|(_, error)| error)?;
+    let tape = without_medium(packed)?;
     holds(alloc, tape.bytes(), &[-301])
 }
 
@@ -316,7 +316,7 @@ fn takes_steps(alloc: Global) -> hound::Result<bool> {
     let mut marks = [false; 3];
     let spec_ex = integers(1, 44100, 16, 2);
     let recorded = record_steps(alloc, empty_tape(alloc), spec_ex, &steps, &mut marks);
-    let tape = recorded.map_err(|(_, error)| error)?;
+    let tape = without_medium(recorded)?;
     Ok(marks == [true; 3] && holds(alloc, tape.bytes(), &[7, 300, -301])?)
 }
 
@@ -339,9 +339,12 @@ fn continues(alloc: Global) -> hound::Result<bool> {
 fn recorders_leave_what_they_accepted(rt: HostRuntime) -> Result<(), Fail> {
     let alloc = rt.alloc();
     let blocks: &[&[Twelve]] = &BLOCKS;
-    assert!(rt; records(alloc, blocks)?);
-    assert!(rt; appends(alloc, blocks)?);
-    assert!(rt; publishes(alloc, blocks)?);
+    let found = [
+        records(alloc, blocks)?,
+        appends(alloc, blocks)?,
+        publishes(alloc, blocks)?,
+    ];
+    assert_eq!(rt; found, [true; 3]);
     Ok(())
 }
 
@@ -353,40 +356,47 @@ fn effects_leave_what_was_saved(rt: HostRuntime) -> Result<(), Fail> {
     let mono = integers(1, 44100, 16, 2);
     // The header, the blocks, and two sizes for each.
     let written = 44 + 8 + 3 * 8;
-    assert!(rt; saves(alloc, mono, blocks, &[], (&FOUR_SAMPLES, written))?);
+    let plain = saves(alloc, mono, blocks, &[], (&FOUR_SAMPLES, written))?;
     // Again the first block twice and a size three times.
     let lost = [true, true, false, false, true, true, true];
     let repeated = written + 2 * 2 + 3 * 4;
-    assert!(rt; saves(alloc, mono, blocks, &lost, (&FOUR_SAMPLES, repeated))?);
+    let with_losses = saves(alloc, mono, blocks, &lost, (&FOUR_SAMPLES, repeated))?;
     // And a pad byte.
     let written = 44 + 3 + 2 * 8 + 1;
-    assert!(rt;
-        saves(
-            alloc,
-            integers(1, 44100, 8, 1),
-            odd,
-            &[],
-            (ODD_FILE, written)
-        )?
-    );
-    assert!(rt; begins(alloc)?);
-    assert!(rt; keeps(alloc, blocks)?);
-    assert!(rt; resumes(alloc, &FOUR_SAMPLES, blocks)?);
-    // Two syncs, and then a size twice: a sync whose report is lost would have failed.
-    assert!(rt; mends(alloc, blocks, &[false, false, true, true])?);
-    assert!(rt; continues_in_parts(alloc)?);
-    assert!(rt; has_room());
+    let eight = integers(1, 44100, 8, 1);
+    let padded = saves(alloc, eight, odd, &[], (ODD_FILE, written))?;
+    assert_eq!(rt; [plain, with_losses, padded], [true; 3]);
+    Ok(())
+}
+
+#[test]
+fn effects_that_fail_leave_what_was_saved(rt: HostRuntime) -> Result<(), Fail> {
+    let alloc = rt.alloc();
+    let blocks: &[&[u8]] = &CONTAINERS;
+    let found = [
+        begins(alloc)?,
+        keeps(alloc, blocks)?,
+        resumes(alloc, &FOUR_SAMPLES, blocks)?,
+        // Two syncs, and then a size twice: a sync whose report is lost would have failed.
+        mends(alloc, blocks, &[false, false, true, true])?,
+        continues_in_parts(alloc)?,
+        has_room(),
+    ];
+    assert_eq!(rt; found, [true; 6]);
     Ok(())
 }
 
 #[test]
 fn batches_steps_and_single_calls_are_recorded(rt: HostRuntime) -> Result<(), Fail> {
     let alloc = rt.alloc();
-    assert!(rt; takes_a_batch(alloc)?);
-    assert!(rt; takes_i16s(alloc)?);
-    assert!(rt; packs(alloc)?);
-    assert!(rt; takes_steps(alloc)?);
-    assert!(rt; continues(alloc)?);
-    assert!(rt; ends_durably(alloc)?);
+    let found = [
+        takes_a_batch(alloc)?,
+        takes_i16s(alloc)?,
+        packs(alloc)?,
+        takes_steps(alloc)?,
+        continues(alloc)?,
+        ends_durably(alloc)?,
+    ];
+    assert_eq!(rt; found, [true; 6]);
     Ok(())
 }

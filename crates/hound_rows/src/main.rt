@@ -74,25 +74,12 @@ fn answer_number(row: &mut Row, name: &str, words: &[&str]) {
 // Runs a row of a sample.
 fn answer_sample(row: &mut Row, name: &str, words: &[&str]) {
     match (name, words) {
-        ("encode", [kind, value, bits, width]) => {
-            at_type!(*kind, samples::encode(row, value, bits, width), else row.reject());
-        }
-        ("write", [kind, value, bits, options @ ..]) => {
-            at_type!(*kind, samples::write(row, value, bits, options), else row.reject());
-        }
-        ("write_padded", [kind, value, bits, width, options @ ..]) => {
-            at_type!(
-                *kind,
-                samples::write_padded(row, value, bits, width, options),
-                else row.reject()
-            );
-        }
-        ("decode", [kind, format, width, bits, bytes]) => {
-            at_type!(*kind, samples::decode(row, format, width, bits, bytes), else row.reject());
-        }
         ("short", [kind, value]) => samples::short(row, kind, value),
         ("to_float" | "to_int" | "change", [value, bits @ ..]) => {
             scales::answer(row, name, value, bits);
+        }
+        (_, [kind, words @ ..]) => {
+            at_type!(*kind, samples::answer(row, name, words), else row.reject());
         }
         _ => row.reject(),
     }

@@ -96,20 +96,25 @@ fn ask_one<S: Source>(row: &mut Row, reader: &mut WavReader<&mut S>, ask: &str) 
     if let Some(ask) = ask.strip_prefix("block:") {
         return read_blocks(row, reader, ask);
     }
-    if let Some(kind) = ask.strip_prefix("hint=") {
-        return at_type!(kind, show_hint(&mut row.line, reader), else row.reject());
-    }
-    if let Some(kind) = ask.strip_suffix("#") {
-        return at_type!(kind, show_sum(&mut row.line, reader), else row.reject());
-    }
-    let (kind, count) = ask.split_once("*").unwrap_or((ask, "1"));
-    let is_to_end = count.is_empty();
-    let count = if is_to_end {
-        u64::MAX
-    } else {
-        row.number(count)
+    let (kind, what) = match (ask.strip_prefix("hint="), ask.strip_suffix("#")) {
+        (Some(kind), _) => (kind, "hint"),
+        (None, Some(kind)) => (kind, "#"),
+        (None, None) => ask.split_once("*").unwrap_or((ask, "1")),
     };
-    at_type!(kind, show_items(&mut row.line, reader, count, is_to_end), else row.reject());
+    at_type!(kind, show_asked(row, reader, what), else row.reject());
+}
+
+// The hint, a sum, all items, or this many.
+fn show_asked<T: Value>(row: &mut Row, reader: &mut WavReader<impl io::Read + Drop>, what: &str) {
+    match what {
+        "hint" => show_hint::<T>(&mut row.line, reader),
+        "#" => show_sum::<T>(&mut row.line, reader),
+        "" => show_items::<T>(&mut row.line, reader, u64::MAX, true),
+        _ => {
+            let count = row.number(what);
+            show_items::<T>(&mut row.line, reader, count, false);
+        }
+    }
 }
 
 // This many items, or all up to the first None.

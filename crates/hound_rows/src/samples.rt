@@ -5,8 +5,21 @@ use hound_callers::Twelve;
 use hound_row_helpers::row::Row;
 use hound_row_helpers::sink::Sink;
 
-/// `encode TYPE VALUE BITS WIDTH`
-pub fn encode<T: Value>(row: &mut Row, value: &str, bits: &str, width: &str) {
+/// A row of a sample of a type, by its name and the words after the type.
+pub fn answer<T: Value>(row: &mut Row, name: &str, words: &[&str]) {
+    match (name, words) {
+        ("encode", [value, bits, width]) => encode::<T>(row, value, bits, width),
+        ("write", [value, bits, options @ ..]) => write::<T>(row, value, bits, options),
+        ("write_padded", [value, bits, width, options @ ..]) => {
+            write_padded::<T>(row, value, bits, width, options);
+        }
+        ("decode", [format, width, bits, bytes]) => decode::<T>(row, format, width, bits, bytes),
+        _ => row.reject(),
+    }
+}
+
+// `encode TYPE VALUE BITS WIDTH`
+fn encode<T: Value>(row: &mut Row, value: &str, bits: &str, width: &str) {
     let value = T::of(row, value);
     let (bits, width) = (row.number(bits), row.number(width));
     match value.encode(bits, width) {
@@ -15,8 +28,8 @@ pub fn encode<T: Value>(row: &mut Row, value: &str, bits: &str, width: &str) {
     }
 }
 
-/// `write TYPE VALUE BITS SINK`
-pub fn write<T: Value>(row: &mut Row, value: &str, bits: &str, options: &[&str]) {
+// `write TYPE VALUE BITS SINK`
+fn write<T: Value>(row: &mut Row, value: &str, bits: &str, options: &[&str]) {
     let value = T::of(row, value);
     let bits = row.number(bits);
     let mut sink = Sink::of(row, options);
@@ -24,14 +37,8 @@ pub fn write<T: Value>(row: &mut Row, value: &str, bits: &str, options: &[&str])
     row.line.contents(&sink.taken);
 }
 
-/// `write_padded TYPE VALUE BITS WIDTH SINK`
-pub fn write_padded<T: Value>(
-    row: &mut Row,
-    value: &str,
-    bits: &str,
-    width: &str,
-    options: &[&str],
-) {
+// `write_padded TYPE VALUE BITS WIDTH SINK`
+fn write_padded<T: Value>(row: &mut Row, value: &str, bits: &str, width: &str, options: &[&str]) {
     let value = T::of(row, value);
     let (bits, width) = (row.number(bits), row.number(width));
     let mut sink = Sink::of(row, options);
@@ -39,8 +46,8 @@ pub fn write_padded<T: Value>(
     row.line.contents(&sink.taken);
 }
 
-/// `decode TYPE FORMAT WIDTH BITS BYTES`
-pub fn decode<T: Value>(row: &mut Row, format: &str, width: &str, bits: &str, bytes: &str) {
+// `decode TYPE FORMAT WIDTH BITS BYTES`
+fn decode<T: Value>(row: &mut Row, format: &str, width: &str, bits: &str, bytes: &str) {
     let format = match format {
         "int" => SampleFormat::Int,
         "float" => SampleFormat::Float,

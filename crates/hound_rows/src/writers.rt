@@ -96,14 +96,20 @@ fn begin<M: Source + Medium>(
         (_, Begin::New(spec_ex)) => return returning(WavWriter::try_new(medium, spec_ex)),
         (_, Begin::Append) => return returning(WavWriter::try_append(medium)),
     };
-    made.map_err(|error| (None, error))
+    match made {
+        Ok(writer) => Ok(writer),
+        Err(error) => Err((None, error)),
+    }
 }
 
 // The medium comes back with an error.
 fn returning<M: Medium>(
     made: result::Result<WavWriter<M>, (M, Error)>,
 ) -> result::Result<WavWriter<M>, (Option<M>, Error)> {
-    made.map_err(|(medium, error)| (Some(medium), error))
+    match made {
+        Ok(writer) => Ok(writer),
+        Err((medium, error)) => Err((Some(medium), error)),
+    }
 }
 
 fn end<M: Medium>(row: &mut Row, script: Script<'_>, writer: WavWriter<M>) -> Option<M> {
@@ -132,19 +138,32 @@ fn end<M: Medium>(row: &mut Row, script: Script<'_>, writer: WavWriter<M>) -> Op
 // An act, its result and the writer's length then.
 fn take<M: Medium>(row: &mut Row, writer: &mut WavWriter<M>, act: &str) {
     let (name, value) = name_and_value(act);
-    let answer = match name.strip_prefix("block:") {
-        Some(kind) => at_type!(kind, write_block(row, writer, value), else rejected(row)),
-        None => {
-            at_type!(
-                name,
-                write_values(row, writer, value),
-                else take_other(row, writer, name, value)
-            )
-        }
+    let (kind, is_block) = match name.strip_prefix("block:") {
+        Some(kind) => (kind, true),
+        None => (name, false),
     };
+    let answer = at_type!(
+        kind,
+        write_as(row, writer, value, is_block),
+        else take_other(row, writer, name, value)
+    );
     row.line.answer(answer);
     row.line.put(":");
     row.line.put_shown(writer.len());
+}
+
+// Samples of a type, by one call or a call each.
+fn write_as<T: Value>(
+    row: &mut Row,
+    writer: &mut WavWriter<impl Medium>,
+    words: &str,
+    is_block: bool,
+) -> Result<()> {
+    if is_block {
+        write_block::<T>(row, writer, words)
+    } else {
+        write_values::<T>(row, writer, words)
+    }
 }
 
 // There is no such act.

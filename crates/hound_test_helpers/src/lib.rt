@@ -77,6 +77,14 @@ pub fn name_of(error: &Error) -> &'static str {
     }
 }
 
+// The answer of a call that hands its medium back with an error, without that medium.
+pub fn without_medium<T: Drop, M: Drop>(answer: Result<T, (M, Error)>) -> hound::Result<T> {
+    match answer {
+        Ok(value) => Ok(value),
+        Err((_, error)) => Err(error),
+    }
+}
+
 // The name of the error that a call returned, or "ok".
 pub fn name_of_answer<T>(answer: &hound::Result<T>) -> &'static str {
     match answer {
