@@ -50,7 +50,7 @@ build_over() {
         --logic-built "$kit/logic_built" --incremental "$work/incremental" --jobs "$jobs" --toolchain "$kit/toolchain" \
             -o out/libhound_c.a
 }
-jobs=2 # four are hardly sooner ready, and take more of the processors' time
+jobs=1 # two take a quarter more of the processors' time
 how=(rt lib --target)
 ! is_proved || how=(build_over)
 

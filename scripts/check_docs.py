@@ -144,9 +144,10 @@ def miscounted():
     """What the pages count in another way than the repository has it."""
     with open(os.path.join(TOP, "crates", "hound_rows", "stdin")) as file:
         rows = sum(1 for line in file if line.strip() and not line.startswith("#"))
-    tried = len(glob.glob(os.path.join(TOP, "crates/*/twins/*.edit")))
     every = len(glob.glob(os.path.join(TOP, "crates/*/mutants/*.edit")))
-    for said in (f"{rows:,} lines", f"| {every}; {tried} |"):
+    twins = len(glob.glob(os.path.join(TOP, "crates/*/twins/*.edit")))
+    tried = len(glob.glob(os.path.join(TOP, "crates/hound_writer/twins/*.edit")))
+    for said in (f"{rows:,} lines", f"| {every}; {twins}; {tried} |"):
         if said not in read("docs/TESTING.md"):
             yield "docs/TESTING.md", said
 

@@ -235,7 +235,7 @@ by_cmake() {
             && cmake --build "$work/cmake.user/out" && (cd "$work" && cmake.user/out/tone) || return 1
     done
 }
-python_by_source() { HOUND_C_LIBRARY=$work/source/lib/libhound_c.so python_tests; }
+python_by_source() { HOUND_C_LIBRARY=$work/source/lib/libhound_c.so python_tests files floats; }
 cargo_by_source() { HOUND_C_SOURCE=1 cargo test -q --offline --manifest-path "bindings/hound/Cargo.toml" --target-dir \
     "$work/target.source"; }
 page_of_c() {
@@ -266,7 +266,7 @@ python_installed() {
         && $offline "$python" -m pip install -q --no-index --disable-pip-version-check \
             "git+file://$top#subdirectory=bindings/python"
 }
-python_tests() { local name; for name in files streams floats command;
+python_tests() { local name; for name in "$@";
     do "$python" "bindings/python/tests/test_$name.py" || return 1; done; }
 command_installed() { [ -s "$work/venv/share/man/man1/hound-wav.1" ] \
     && [ "$("$work/venv/bin/hound-wav" --version)" = \
@@ -422,9 +422,9 @@ if has python3 "the Python package" && has "$cc" "the Python package"; then
     check "where HOUND_C_LIB has no library, a line says so" no_library
     if python3 -c 'import ensurepip, venv' 2> /dev/null; then
         check "pip installs the Python package from a clone, here without a C compiler" python_installed
-        check "the tests of the Python package" python_tests
+        check "the tests of the Python package" python_tests files streams floats command
         check "pip installs the command hound-wav, and its page for man" command_installed
-        check "the same over the library that is compiled from hound_c.c" python_by_source
+        check "those of files and floats over the library that is compiled from hound_c.c" python_by_source
         has sox "guesses of lost headers" && is_node_20 \
             && check "both packages guess the same of files whose header is lost" "$python" bindings/tests/guesses.py
         check "the tests with what Python has on Windows, and what pip builds on other systems" python_systems
