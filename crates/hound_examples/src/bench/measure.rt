@@ -1,8 +1,10 @@
 // Cases from end to end: what is made before, what is timed, and what is checked after it.
+ghost use Rattle.std.specs.Prelude.{◌≡◌, IfOk};
+
 use crate::bench::case::{Call, Case, Kind, Place, Samples, Work};
 use crate::bench::pattern::{Eight, Float, Pattern, Sixteen, ThirtyTwo, TwentyFour};
 use crate::bench::workloads::{open_often, read_all, seek_often, write_all};
-use hound::{FloatBits, Result, Tape, WavReader, WavSpec, WavWriter};
+use hound::{FloatBits, Placed, Result, Tape, WavReader, WavSpec, WavWriter};
 use std::alloc::Global;
 use std::fs;
 use std::path::Path;
@@ -47,7 +49,9 @@ pub fn measure(rt: &HostRuntime, case: Case, count: u32, path: Path<'_>) -> Resu
 
 // An empty tape, or in memory of its full size one of zeros, as long as the file of this many samples
 // will be.
-fn tape_of(alloc: Global, place: Place, spec: WavSpec, count: u32) -> Result<Tape> {
+fn tape_of(alloc: Global, place: Place, spec: WavSpec, count: u32) -> Result<Tape>
+    ensures { IfOk result (λ t. (⟦<Tape as Placed>⟧.state t).place ≡ 0) }
+{
     let mut bytes = Vec::new(alloc);
     if matches!(place, Place::Memory) {
         let header = spec.into_header_for_infinite_file(alloc)?;
