@@ -632,8 +632,9 @@ seek_f32_file 1002 4008 1610296371528"""
         for line in cases.split("\n"):
             name, count, *_ = line.split()
             status, output, errors = example.run(["bench", name, count, path])
+            same((status, errors), (0, b""), line)
             parts = output.decode().split(" ")
-            same((status, errors, parts[3].isdecimal()), (0, b"", True))
+            same((len(parts), parts[3].isdecimal()), (5, True), line)
             same(" ".join(parts[:3] + parts[4:]), line + "\n")
 
 

@@ -189,6 +189,9 @@ def main():
     parser.add_argument("--beside", metavar="LOG")
     parser.add_argument("crates", metavar="CRATE", nargs="*")
     given = parser.parse_args()
+    for name in given.crates:
+        if not glob.glob(os.path.join(TOP, "crates", name, "twins", "*.edit")):
+            parser.error(f"no crate {name} has twins")
     count = rejected = accepted = 0
     for name, (static, libraries) in below().items():
         crate = os.path.join(TOP, "crates", name)
