@@ -1,6 +1,7 @@
 // What the samples of a file are whose header is lost, by which of all forms makes them most predictable: see "A header
-// that is lost" in docs/BINDINGS.md. The Python package does the same (hound_bindings/lost.py), by the same arithmetic
-// in the same order, so both have one answer for a file: bindings/tests/guesses.py compares them.
+// that is lost" in docs/BINDINGS.md. The Python package does the same (hound_bindings/lost.py), by the same arithmetic,
+// in the same order but for sums of integers, which are exact, so both have one answer for a file:
+// bindings/tests/guesses.py compares them.
 
 // How many blocks of a file are looked at, of how many bytes each, and of which number of bytes the frames of all forms
 // are a part. Fewer bytes than FEWEST_BYTES, or samples of a channel than FEWEST_SAMPLES, may be predictable by chance.

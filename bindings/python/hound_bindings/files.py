@@ -4,7 +4,6 @@ import ctypes
 import io
 import mmap
 import os
-import secrets
 import shutil
 import stat
 import sys
@@ -181,7 +180,7 @@ def _locked_if_there(path: Path) -> ContextManager[Any]:
 @contextlib.contextmanager
 def _part_of(path: Path, folder: str) -> Iterator[str]:
     """The name of a new file in a folder. At an error it is removed, and the error names the path instead of it."""
-    part = os.path.join(folder, f".hound-{secrets.token_hex(8)}")
+    part = os.path.join(folder, f".hound-{os.urandom(8).hex()}")
     try:
         yield part
     except BaseException as error:

@@ -14,8 +14,9 @@ __all__ = ["chunks_at_end", "copy", "guess", "recovered", "start_of"]
 _guess_data = function("guess_data", POINTER, SIZE)
 
 _MOST = (1 << 63) - 1
-# The guess is that of bindings/js/guess.js, by the same arithmetic in the same order, so both have one answer for a
-# file; docs/BINDINGS.md says how it is made ("A header that is lost"). These are its constants.
+# The guess is that of bindings/js/guess.js, by the same arithmetic, in the same order but for sums of integers, which
+# are exact, so both have one answer for a file; docs/BINDINGS.md says how it is made ("A header that is lost"). These
+# are its constants.
 _BLOCKS, _BLOCK_LENGTH, _COMMON, _LEAST, _FEWEST = 16, 3072, 96, 1024, 16
 USUAL_START, _LONGER_STARTS = 44, (80, 68, 58)
 # Of forms that are as predictable the one with the lower rank is taken, since it is more usual.
@@ -88,12 +89,20 @@ class _Prediction(NamedTuple):
 def _predicted(samples: List[int]) -> _Prediction:
     now, before, second = samples[2:], samples[1:-1], samples[:-2]
 
-    def product(some: List[int], others: List[int]) -> float:
-        return float(sum(map(operator.mul, some, others)))
+    def product(some: List[int], others: List[int]) -> int:
+        return sum(map(operator.mul, some, others))
 
+    # The others are products of the same numbers, but for those at an end.
     p00, p01, p02 = product(now, now), product(now, before), product(now, second)
-    p11, p12, p22 = product(before, before), product(before, second), product(second, second)
-    determinant, count = p11 * p22 - p12 * p12, len(now)
+    p11 = p00 + samples[1] ** 2 - samples[-1] ** 2
+    p22 = p11 + samples[0] ** 2 - samples[-2] ** 2
+    p12 = p01 + samples[0] * samples[1] - samples[-2] * samples[-1]
+    return _prediction(*map(float, (p00, p01, p02, p11, p12, p22)), len(now))
+
+
+def _prediction(p00: float, p01: float, p02: float, p11: float, p12: float, p22: float, count: int) -> _Prediction:
+    """By the products of samples (0) with those before (1) and second before them (2), of which there are so many."""
+    determinant = p11 * p22 - p12 * p12
     one = two = 0.0
     if determinant > p11 * p22 * 1e-9:
         one = (p01 * p22 - p02 * p12) / determinant
@@ -121,13 +130,29 @@ def _channel_of(samples: List[int], channel: int, channels: int) -> List[int]:
     return [sample - middle for sample in some]
 
 
-def _looked(blocks: List[List[int]], bits: int, is_float: bool, channels: int) -> Optional[Tuple[int, float]]:
-    """How odd blocks are in this form, and how many bits a byte needs then; nothing if they aren't of it. One that is
-    odd is a last resort: its samples are never negative, or a channel is silent."""
+class _Look(NamedTuple):
+    """How odd blocks are in a form, how many bits a byte needs then, and the channels of each block that sounds, with
+    how they are predicted. A form that is odd is a last resort: its samples are never negative, or a channel is
+    silent."""
+
+    oddness: int
+    bits: float
+    channels: List[Tuple[List[int], _Prediction]]
+
+    def has_turns(self) -> bool:
+        """Whether most samples of one half are predicted worse than those next to them, as where two channels are
+        taken for one."""
+        turns = [_turns_of(*channel) for channel in self.channels]
+        return abs(sum(more for more, _ in turns)) > _TURNS * sum(pairs for _, pairs in turns)
+
+
+def _looked(blocks: List[List[int]], bits: int, is_float: bool, channels: int) -> Optional[_Look]:
+    """How blocks look in this form; nothing if they aren't of it, unless it has turns."""
     highest = min(bits, _HIGHEST)
     rest, varies, needed, count = 8 if is_float else bits - highest, [False] * channels, 0.0, 0
-    sounding = noisy = alone = turns = pairs = 0
+    sounding = noisy = alone = 0
     is_signed = False
+    heard: List[Tuple[List[int], _Prediction]] = []
     for block in blocks:
         if len(block) < _FEWEST * channels:
             continue
@@ -135,19 +160,19 @@ def _looked(blocks: List[List[int]], bits: int, is_float: bool, channels: int) -
         found = [_predicted(part) for part in parts]
         if all(one.is_constant for one in found):
             continue
+        heard += zip(parts, found)
         for channel, (part, one) in enumerate(zip(parts, found)):
-            more, of = _turns_of(part, one)
-            turns, pairs, alone = turns + more, pairs + of, alone + one.is_alone
+            alone += one.is_alone
             varies[channel] = varies[channel] or not one.is_constant
             needed += (one.bits + rest) * len(part)
         needed, count, sounding = needed + len(block), count + len(block), sounding + 1
         noisy += not is_float and any(one.bits > highest - SPARE for one in found)
         is_signed = is_signed or min(block) < 0
-    is_none = sounding == 0 or noisy * 8 > sounding or alone * 2 > sounding * channels
-    if is_none or abs(turns) > _TURNS * pairs:
+    if sounding == 0 or noisy * 8 > sounding or alone * 2 > sounding * channels:
         return None
     width = bits // 8
-    return (width > 1 and not is_signed) + (False in varies), needed / (count * width) + _CHANNELS[channels] / width
+    oddness = (width > 1 and not is_signed) + (False in varies)
+    return _Look(oddness, needed / (count * width) + _CHANNELS[channels] / width, heard)
 
 
 def _decoded(block: bytes, form: Info) -> "array.array[Any]":
@@ -190,8 +215,8 @@ def _form_of(blocks: List[bytes], start: int, zeros: Optional[int]) -> Optional[
             samples = [_highest_of(block, bits, is_float) for block in decoded]
             for channels in _CHANNELS:
                 found = _looked(samples, bits, is_float, channels)
-                if found and (best is None or found < best[0]):
-                    best = found, Info(0, channels, bits, is_float, 0, shift)
+                if found and (best is None or found[:2] < best[0]) and not found.has_turns():
+                    best = found[:2], Info(0, channels, bits, is_float, 0, shift)
     if best is None:
         return None
     form = best[1]

@@ -8,7 +8,6 @@ import inspect
 import mmap
 import os
 import re
-import secrets  # noqa: F401
 import shutil  # noqa: F401
 import sys
 import tempfile
@@ -23,7 +22,7 @@ if "hound_bindings" in sys.modules:
 NAMES = {
     os: (
         "O_CREAT O_EXCL O_RDONLY O_RDWR O_WRONLY PathLike SEEK_END SEEK_SET chmod close environ fsdecode fspath fstat"
-        " fsync ftruncate getpid lseek name path read stat unlink write"
+        " fsync ftruncate getpid lseek name path read stat unlink urandom write"
     ),
     mmap: "mmap",
 }
