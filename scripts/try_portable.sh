@@ -130,6 +130,7 @@ wrong_boards() {
     local edit
     mkdir -p "$work/wrong_board/c" "$work/wrong_board/tests"
     cp -r $tests/board "$work/wrong_board/tests"
+    gcc -w -O1 -c "$source" -o "$work/wrong_board/hound_c.o" || exit 1
     for edit in 's/result = f_sync(file), /result = FR_OK, /' 's/effect->report = .*/effect->report = HOUND_DONE;/' \
         's/result = f_truncate(file)/result = FR_OK/' \
         's/? block : effect->bytes/? effect->bytes : block/' \
@@ -138,8 +139,8 @@ wrong_boards() {
         's/hound_recorder_checkpoint(recorder);//' 's/int is_there = .*/int is_there = 1;/'; do
         tried=$((tried + 1))
         sed "$edit" bindings/c/board.c > "$work/wrong_board/c/board.c"
-        gcc -w -O1 -Ibindings/c "-I$tests/board" "$work/wrong_board/tests/board/board.c" "$source" -o "$work/board" 2> \
-            "$work/log" && timeout 60 "$work/board" > "$work/said"
+        gcc -w -O1 -Ibindings/c "-I$tests/board" "$work/wrong_board/tests/board/board.c" "$work/wrong_board/hound_c.o" \
+            -o "$work/board" 2> "$work/log" && timeout 60 "$work/board" > "$work/said"
         if [ $? -eq 1 ] && grep -q '^board: ' "$work/said" \
             && ! cmp -s bindings/c/board.c "$work/wrong_board/c/board.c"; then
             say "wrong: board.c: $edit: found"

@@ -18,7 +18,8 @@ import tempfile
 
 import hound_bindings as hound
 import recordings
-from python_faults import CASES, LIST, STREAM, Wrong, file_of, head, leave
+from python_faults import Wrong, leave
+from python_program import CASES, LIST, STREAM, file_of, head
 from recordings import contents_of
 from rows import TOP, model, repaired_by_model, repairs
 from wav import with_riff
@@ -136,7 +137,7 @@ def compiled(folder, text):
 def ended(words, **options):
     """How a program has ended."""
     try:
-        return subprocess.run(words, stdout=subprocess.PIPE, stderr=subprocess.PIPE, timeout=20, **options)
+        return subprocess.run(words, stdout=subprocess.PIPE, stderr=subprocess.PIPE, timeout=10, **options)
     except subprocess.TimeoutExpired:
         raise Wrong(f"{words} doesn't end") from None
 
@@ -420,21 +421,24 @@ def check_lock(program, path):
 
 
 def all_checks(program, path, is_short):
-    """What was tried. The wrong versions need fewer files."""
-    calls = sum(check_calls(program, path, how, before) for how, before in CALLED)
-    losses = sum(check_losses(program, path, how, before) for how, before in CALLED)
+    """What was tried, the quickest first, since a wrong version is tried until it is found. For these fewer files are
+    enough."""
     errors = check_errors(program, path)
     check_read_only(program, path)
     if not IN_CARGO:
         check_kinds(program, path)
     check_lock(program, path)
     cut = list(cut_files())
-    files = check_files(program, path, (("mend", data) for data in (cut[:500] if is_short else cut)))
-    files += check_files(program, path, ((how, data) for how in WAYS for data in cut[:: 9 if is_short else 3]))
+    files = check_files(program, path, ((how, data) for data in cut[:: 60 if is_short else 3] for how in WAYS))
+    calls = losses = 0
+    for how, before in CALLED:
+        calls += check_calls(program, path, how, before)
+        losses += check_losses(program, path, how, before)
     if is_short:
         return ""
     check_same(program, path)
     check_long(program, path)
+    files += check_files(program, path, (("mend", data) for data in cut))
     files += check_files(program, path, repairs())
     return f"{files} files, {errors} errors, {calls} killed or failing calls, {losses} states of a loss of power"
 
