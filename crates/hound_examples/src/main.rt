@@ -1,6 +1,6 @@
 //! Examples of programs, a page each, to be copied into `src/main.rt` of a crate of one's own (whose first
 //! line is `#![tactic(auto)]`). Here they are one program: the name that it is called by, as `sine` by a
-//! link, says which runs.
+//! link, says which runs. `bench` is no example: it times workloads for `scripts/speed/measure.py`.
 #![tactic(auto)]
 
 mod append;

@@ -96,22 +96,37 @@ fn ask_one<S: Source>(row: &mut Row, reader: &mut WavReader<&mut S>, ask: &str) 
     if let Some(ask) = ask.strip_prefix("block:") {
         return read_blocks(row, reader, ask);
     }
-    let (kind, what) = match (ask.strip_prefix("hint="), ask.strip_suffix("#")) {
-        (Some(kind), _) => (kind, "hint"),
-        (None, Some(kind)) => (kind, "#"),
-        (None, None) => ask.split_once("*").unwrap_or((ask, "1")),
+    let (kind, shown) = match (ask.strip_prefix("hint="), ask.strip_suffix("#")) {
+        (Some(kind), _) => (kind, Shown::Hint),
+        (None, Some(kind)) => (kind, Shown::Sum),
+        (None, None) => match ask.split_once("*") {
+            Some((kind, count)) => (kind, Shown::Items(count)),
+            None => (ask, Shown::Items("1")),
+        },
     };
-    at_type!(kind, show_asked(row, reader, what), else row.reject());
+    at_type!(kind, show_all(row, reader, shown), else row.reject());
 }
 
-// The hint, a sum, all items, or this many.
-fn show_asked<T: Value>(row: &mut Row, reader: &mut WavReader<impl io::Read + Drop>, what: &str) {
-    match what {
-        "hint" => show_hint::<T>(&mut row.line, reader),
-        "#" => show_sum::<T>(&mut row.line, reader),
-        "" => show_items::<T>(&mut row.line, reader, u64::MAX, true),
-        _ => {
-            let count = row.number(what);
+// What is shown of the samples of a type.
+#[derive(Clone, Copy)]
+enum Shown<'a> {
+    Hint,
+    Sum,
+    // This many, or without a number all of them.
+    Items(&'a str),
+}
+
+fn show_all<T: Value>(
+    row: &mut Row,
+    reader: &mut WavReader<impl io::Read + Drop>,
+    shown: Shown<'_>,
+) {
+    match shown {
+        Shown::Hint => show_hint::<T>(&mut row.line, reader),
+        Shown::Sum => show_sum::<T>(&mut row.line, reader),
+        Shown::Items("") => show_items::<T>(&mut row.line, reader, u64::MAX, true),
+        Shown::Items(count) => {
+            let count = row.number(count);
             show_items::<T>(&mut row.line, reader, count, false);
         }
     }
