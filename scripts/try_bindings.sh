@@ -236,8 +236,8 @@ by_cmake() {
     done
 }
 python_by_source() { HOUND_C_LIBRARY=$work/source/lib/libhound_c.so python_tests files floats; }
-cargo_by_source() { HOUND_C_SOURCE=1 cargo test -q --offline --manifest-path "bindings/hound/Cargo.toml" --target-dir \
-    "$work/target.source"; }
+cargo_by_source() { HOUND_C_SOURCE=1 cargo test -q --tests --offline --manifest-path bindings/hound/Cargo.toml \
+    --target-dir "$work/target.source"; }
 page_of_c() {
     page c > "$work/page.c" && "$cc" $strict "$work/page.c" "$library" -o "$work/page" \
         && (cd "$work" && $run ./page) || return 1

@@ -96,23 +96,36 @@ fn a_file_is_looked_at_and_repaired(rt: HostRuntime) -> Result<(), Fail> {
 }
 
 #[test]
-fn samples_are_collected_and_found(rt: HostRuntime) -> Result<(), Fail> {
+fn samples_are_collected(rt: HostRuntime) -> Result<(), Fail> {
     let samples: Vec<i32> = samples_of(rt.alloc(), WavReader::new(STEREO)?)?;
     assert_eq!(rt; samples.as_slice(), [2, -3, 5, -7].as_slice());
-    let mut reader = WavReader::new(tape_of(rt.alloc(), STEREO)?)?;
-    let second: Option<i16> = sample_at(&mut reader, 1)?;
-    let mut reader = WavReader::new(tape_of(rt.alloc(), STEREO)?)?;
-    let third: Option<i16> = sample_at(&mut reader, 2)?;
-    assert_eq!(rt; (second, third), (Some(5), None));
+    Ok(())
+}
+
+// The first sample of a frame of the stereo file.
+fn sample_of_frame(alloc: Global, frame: u32) -> Result<Option<i16>, Fail> {
+    let mut reader = WavReader::new(tape_of(alloc, STEREO)?)?;
+    Ok(sample_at(&mut reader, frame)?)
+}
+
+#[test]
+fn a_sample_is_found(rt: HostRuntime) -> Result<(), Fail> {
+    assert_eq!(rt; sample_of_frame(rt.alloc(), 1)?, Some(5));
+    assert_eq!(rt; sample_of_frame(rt.alloc(), 2)?, None);
     Ok(())
 }
 
 #[test]
-fn a_block_is_read_and_the_rest_is_left(rt: HostRuntime) -> Result<(), Fail> {
+fn a_block_is_read(rt: HostRuntime) -> Result<(), Fail> {
     let mut reader = WavReader::new(STEREO)?;
     let mut block = [0i16; 3];
     let count = read_block(&mut reader, &mut block)?;
     assert_eq!(rt; (count, block), (3, [2, -3, 5]));
+    Ok(())
+}
+
+#[test]
+fn what_follows_a_block_is_left(rt: HostRuntime) -> Result<(), Fail> {
     let reader = WavReader::new(tape_of(rt.alloc(), STEREO)?)?;
     let mut block = [0i32; 1];
     let (count, mut rest) = read_from(reader, 1, &mut block)?;
@@ -130,6 +143,11 @@ fn a_written_file_is_opened_again(rt: HostRuntime) -> Result<(), Fail> {
     let tape = tape_of(rt.alloc(), &FOUR_SAMPLES)?;
     let writer = without_medium(reopen(tape))?;
     assert_eq!(rt; writer.len(), 4);
+    Ok(())
+}
+
+#[test]
+fn a_file_that_is_opened_again_takes_samples(rt: HostRuntime) -> Result<(), Fail> {
     let tape = tape_of(rt.alloc(), &NO_SAMPLES)?;
     let mut writer = without_medium(reopen(tape))?;
     record_at_once(&mut writer, &[2i16, -3, 5, -7])?;

@@ -6,11 +6,11 @@ use hound::{
 };
 use hound_callers::{record_and_read, samples_of};
 use hound_commands::run_append;
-use hound_test_helpers::{FOUR_SAMPLES, NO_SAMPLES, integers, name_of, sixteen};
+use hound_test_helpers::{FOUR_SAMPLES, NO_SAMPLES, integers, name_of, path_of, sixteen};
+use std::fs;
 use std::io::ErrorKind;
-use std::path::{Path, PathBuf};
+use std::path::Path;
 use std::test::Fail;
-use std::{env, fs, process};
 
 // What is done to a file, or checked of it.
 #[derive(Clone, Copy)]
@@ -201,6 +201,27 @@ fn finish<M: Medium>(writer: WavWriter<M>, samples: &[i16]) -> hound::Result<boo
     Ok(true)
 }
 
+fn create(rt: &HostRuntime, path: Path<'_>, channels: u16, samples: &[i16]) -> hound::Result<bool> {
+    let writer = WavWriter::create(rt, rt.alloc(), path, sixteen(channels))?;
+    finish(writer, samples)
+}
+
+fn append(rt: &HostRuntime, path: Path<'_>, samples: &[i16]) -> hound::Result<bool> {
+    let writer = WavWriter::append(rt, rt.alloc(), path)?;
+    finish(writer, samples)
+}
+
+fn append_one(rt: &HostRuntime, path: Path<'_>, sample: i16) -> hound::Result<bool> {
+    let mut writer = WavWriter::append(rt, rt.alloc(), path)?;
+    writer.write_sample(sample)?;
+    Ok(true)
+}
+
+fn create_durable(rt: &HostRuntime, path: Path<'_>, samples: &[i16]) -> hound::Result<bool> {
+    let writer = WavWriter::create_durable(rt, rt.alloc(), path, sixteen(1))?;
+    finish(writer, samples)
+}
+
 fn append_durable(rt: &HostRuntime, path: Path<'_>, samples: &[i16]) -> hound::Result<bool> {
     let mut writer = WavWriter::append_durable(rt, rt.alloc(), path)?;
     writer.write_samples(samples)?;
@@ -262,32 +283,24 @@ fn seeks(rt: &HostRuntime, path: Path<'_>, samples: &[i16]) -> hound::Result<boo
     Ok(true)
 }
 
+fn repair_to_end(rt: &HostRuntime, path: Path<'_>, wanted: (u32, u32)) -> hound::Result<bool> {
+    let found = repair_file_to_end(rt, rt.alloc(), path)?;
+    Ok((found.frames, found.left_over) == wanted)
+}
+
 fn does(rt: &HostRuntime, path: Path<'_>, deed: Deed) -> hound::Result<bool> {
-    let alloc = rt.alloc();
     match deed {
         Deed::Put(bytes) => {
             fs::write(rt, path, bytes)?;
             Ok(true)
         }
-        Deed::Create(channels, samples) => {
-            let writer = WavWriter::create(rt, alloc, path, sixteen(channels))?;
-            finish(writer, samples)
-        }
-        Deed::Append(samples) => finish(WavWriter::append(rt, alloc, path)?, samples),
-        Deed::AppendOne(sample) => {
-            WavWriter::append(rt, alloc, path)?.write_sample(sample)?;
-            Ok(true)
-        }
-        Deed::CreateDurable(samples) => {
-            let writer = WavWriter::create_durable(rt, alloc, path, sixteen(1))?;
-            finish(writer, samples)
-        }
+        Deed::Create(channels, samples) => create(rt, path, channels, samples),
+        Deed::Append(samples) => append(rt, path, samples),
+        Deed::AppendOne(sample) => append_one(rt, path, sample),
+        Deed::CreateDurable(samples) => create_durable(rt, path, samples),
         Deed::AppendDurable(samples) => append_durable(rt, path, samples),
         Deed::Repair(state, frames, left_over) => repair(rt, path, (state, frames, left_over)),
-        Deed::RepairToEnd(frames, left_over) => {
-            let found = repair_file_to_end(rt, alloc, path)?;
-            Ok((found.frames, found.left_over) == (frames, left_over))
-        }
+        Deed::RepairToEnd(frames, left_over) => repair_to_end(rt, path, (frames, left_over)),
         Deed::Checkpoint(first, second) => checkpoint(rt, path, first, second),
         Deed::AppendText(text, status, line) => Ok(append_text(rt, path, text, status, line)),
         Deed::Example(sum) => Ok(record_and_read(rt, path, sixteen(1))? == sum),
@@ -318,16 +331,9 @@ impl Row {
     }
 }
 
-// A file that no other process names.
-fn path_of(rt: &HostRuntime) -> Result<PathBuf, Fail> {
-    let id = process::id(rt.process());
-    let name = format!(in rt.alloc(); "hound_tests_{id}.wav")?;
-    Ok(env::temp_dir(rt)?.join(rt.alloc(), name.as_str())?)
-}
-
 #[test]
 fn files_do_as_their_rows_say(rt: HostRuntime) -> Result<(), Fail> {
-    let path = path_of(&rt)?;
+    let path = path_of(&rt, "hound_caller_tests")?;
     for row in ROWS {
         assert!(rt; row.holds(&rt, path.as_path()), "{}", row.name);
     }
@@ -382,7 +388,7 @@ fn create_wide(
 
 #[test]
 fn a_file_keeps_the_width_of_its_containers(rt: HostRuntime) -> Result<(), Fail> {
-    let path = path_of(&rt)?;
+    let path = path_of(&rt, "hound_caller_tests_wide")?;
     let wide = integers(1, 44100, 24, 4);
     let created = create_wide(&rt, path.as_path(), wide, false)?;
     let durable = create_wide(&rt, path.as_path(), wide, true)?;

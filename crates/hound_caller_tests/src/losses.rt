@@ -115,35 +115,53 @@ fn has_published_once_repaired(contents: Vec<u8>, published: u32) -> bool {
     }
 }
 
+// What a recorder leaves whose calls fail from this one on, and the marks of its steps.
+fn recorded(alloc: Global, call: u64) -> Result<(Journal, [bool; 16]), Fail> {
+    let mut journal = Journal::new(alloc, Vec::new(alloc))?;
+    journal.fail(call, u64::MAX);
+    let mut marks = [false; 16];
+    let begin = Begin::New(integers(1, 44100, 16, 2));
+    let medium = Durable::new(journal);
+    let (medium, _) = run_session(alloc, medium, begin, &STEPS, &mut marks, End::Drop);
+    Ok((medium.into_inner(), marks))
+}
+
+// How many losses of power are tried of what a recorder left.
+const LOSSES: u32 = 50;
+
+// How many of them are wrong, where so many samples were accepted and published.
+fn wrong_losses(
+    alloc: Global,
+    journal: &Journal,
+    (accepted, published): (u32, u32),
+    seed: &mut u32,
+) -> Result<u32, Fail> {
+    let mut wrong = 0u32;
+    let states = states_since_flush(alloc, journal)?;
+    for _ in 0..LOSSES {
+        let contents = mixture(alloc, &states, seed)?;
+        let is_right = has_the_first(&contents, accepted, published);
+        if !is_right || !has_published_once_repaired(contents, published) {
+            wrong = wrong.wrapping_add(1);
+        }
+    }
+    Ok(wrong)
+}
+
 #[test]
 fn a_loss_of_power_loses_no_published_sample(rt: HostRuntime) -> Result<(), Fail> {
     let alloc = rt.alloc();
-    let spec_ex = integers(1, 44100, 16, 2);
     let mut seed = 1;
     let mut losses = 0u32;
     let mut wrong = 0u32;
     let mut all = 0;
-    for calls in 1..100u64 {
-        let mut journal = Journal::new(alloc, Vec::new(alloc))?;
-        journal.fail(calls, u64::MAX);
-        let mut marks = [false; 16];
-        let begin = Begin::New(spec_ex);
-        let medium = Durable::new(journal);
-        let (medium, _) = run_session(alloc, medium, begin, &STEPS, &mut marks, End::Drop);
-        let journal = medium.into_inner();
-        if journal.flushed() < HEADER {
-            continue;
-        }
-        let (accepted, published) = counted(&marks);
-        all = published;
-        let states = states_since_flush(alloc, &journal)?;
-        for _ in 0..50 {
-            let contents = mixture(alloc, &states, &mut seed)?;
-            losses = losses.wrapping_add(1);
-            let is_right = has_the_first(&contents, accepted, published);
-            if !is_right || !has_published_once_repaired(contents, published) {
-                wrong = wrong.wrapping_add(1);
-            }
+    for call in 1..100u64 {
+        let (journal, marks) = recorded(alloc, call)?;
+        if HEADER <= journal.flushed() {
+            let counts = counted(&marks);
+            all = counts.1;
+            losses = losses.wrapping_add(LOSSES);
+            wrong = wrong.wrapping_add(wrong_losses(alloc, &journal, counts, &mut seed)?);
         }
     }
     assert_eq!(rt; (wrong, all, 4000 < losses), (0, 12, true));

@@ -292,7 +292,7 @@ fn takes_i16s(alloc: Global) -> hound::Result<bool> {
     Ok(marks == [false, true, true] && holds(alloc, tape.bytes(), &[32_767, -32_768])?)
 }
 
-fn ends_durably(alloc: Global) -> hound::Result<bool> {
+fn ended_durably(alloc: Global) -> hound::Result<Journal> {
     let journal = Journal::new(alloc, Vec::new(alloc))?;
     let mut writer = WavWriter::new(Durable::new(journal), sixteen(1))?;
     record_at_once(&mut writer, &[2i16, -3])?;
@@ -300,6 +300,11 @@ fn ends_durably(alloc: Global) -> hound::Result<bool> {
     writer.flush()?;
     let (journal, result) = finish_durable(writer);
     result?;
+    Ok(journal)
+}
+
+fn ends_durably(alloc: Global) -> hound::Result<bool> {
+    let journal = ended_durably(alloc)?;
     let taken = journal.taken();
     let bytes = journal.bytes_after(alloc, taken)?;
     Ok(journal.flushed() == taken && bytes.as_slice() == FOUR_SAMPLES.as_slice())
@@ -320,15 +325,20 @@ fn takes_steps(alloc: Global) -> hound::Result<bool> {
     Ok(marks == [true; 3] && holds(alloc, tape.bytes(), &[7, 300, -301])?)
 }
 
-// Publishes two samples and continues with a third. Who opens the file just before the sizes of the end are
-// written finds the two, and then all three.
-fn continues(alloc: Global) -> hound::Result<bool> {
+// Publishes two samples and continues with a third.
+fn continued(alloc: Global) -> hound::Result<Journal> {
     let journal = Journal::new(alloc, Vec::new(alloc))?;
     let mut writer = WavWriter::new(journal, sixteen(1))?;
     writer.write_samples(&[300i16, -301])?;
     publish_and_continue(&mut writer, &[7i16])?;
     let (journal, result) = finish(writer);
     result?;
+    Ok(journal)
+}
+
+// Whether who opens that file just before the sizes of the end are written finds the two, and then all three.
+fn continues(alloc: Global) -> hound::Result<bool> {
+    let journal = continued(alloc)?;
     let taken = journal.taken();
     let before = opened_meanwhile(alloc, &journal, taken.saturating_sub(8))?;
     let after = opened_meanwhile(alloc, &journal, taken)?;

@@ -1,6 +1,6 @@
 // Blocks: many samples that are read by one call.
 use crate::readers::Sum;
-use crate::values::{Value, at_type, put_value};
+use crate::values::{Value, at_type, put_value, value_of_number};
 use hound::WavReader;
 use hound_row_helpers::line::Line;
 use hound_row_helpers::row::Row;
@@ -31,10 +31,8 @@ fn read_as<T: Value>(row: &mut Row, reader: &mut WavReader<impl io::Read + Drop>
 // This many places, none of them read yet: each holds 85.
 fn unread<T: Value>(row: &mut Row, length: &str) -> Vec<T> {
     let mut samples = Vec::new(row.alloc);
-    if samples
-        .resize(row.number(length), T::of_number(85))
-        .is_err()
-    {
+    let length = row.number(length);
+    if samples.resize(length, value_of_number(85)).is_err() {
         row.line.fail();
     }
     samples

@@ -1,5 +1,5 @@
 // Rows of single samples.
-use crate::values::{Value, show};
+use crate::values::{Value, show, value_of};
 use hound::{FloatBits, Sample, SampleFormat};
 use hound_callers::Twelve;
 use hound_row_helpers::row::Row;
@@ -20,7 +20,7 @@ pub fn answer<T: Value>(row: &mut Row, name: &str, words: &[&str]) {
 
 // `encode TYPE VALUE BITS WIDTH`
 fn encode<T: Value>(row: &mut Row, value: &str, bits: &str, width: &str) {
-    let value = T::of(row, value);
+    let value: T = value_of(row, value);
     let (bits, width) = (row.number(bits), row.number(width));
     match value.encode(bits, width) {
         Ok(bytes) => row.line.hex(&bytes),
@@ -30,7 +30,7 @@ fn encode<T: Value>(row: &mut Row, value: &str, bits: &str, width: &str) {
 
 // `write TYPE VALUE BITS SINK`
 fn write<T: Value>(row: &mut Row, value: &str, bits: &str, options: &[&str]) {
-    let value = T::of(row, value);
+    let value: T = value_of(row, value);
     let bits = row.number(bits);
     let mut sink = Sink::of(row, options);
     row.line.answer(value.write(&mut sink, bits));
@@ -39,7 +39,7 @@ fn write<T: Value>(row: &mut Row, value: &str, bits: &str, options: &[&str]) {
 
 // `write_padded TYPE VALUE BITS WIDTH SINK`
 fn write_padded<T: Value>(row: &mut Row, value: &str, bits: &str, width: &str, options: &[&str]) {
-    let value = T::of(row, value);
+    let value: T = value_of(row, value);
     let (bits, width) = (row.number(bits), row.number(width));
     let mut sink = Sink::of(row, options);
     row.line.answer(value.write_padded(&mut sink, bits, width));
@@ -64,11 +64,11 @@ fn decode<T: Value>(row: &mut Row, format: &str, width: &str, bits: &str, bytes:
 /// `short TYPE VALUE`; not generic, since the cast needs more of a type that isn't known.
 pub fn short(row: &mut Row, kind: &str, value: &str) {
     let short = match kind {
-        "i8" => i8::of(row, value).as_i16(),
-        "i16" => i16::of(row, value).as_i16(),
-        "i32" => i32::of(row, value).as_i16(),
-        "f" => FloatBits::of(row, value).as_i16(),
-        "own" => Twelve::of(row, value).as_i16(),
+        "i8" => value_of::<i8>(row, value).as_i16(),
+        "i16" => value_of::<i16>(row, value).as_i16(),
+        "i32" => value_of::<i32>(row, value).as_i16(),
+        "f" => value_of::<FloatBits>(row, value).as_i16(),
+        "own" => value_of::<Twelve>(row, value).as_i16(),
         _ => return row.reject(),
     };
     row.line.shown(short);

@@ -1,7 +1,7 @@
 // Rows of samples in another scale.
 ghost use Rattle.std.specs.Prelude.{◌<◌, ◌≤◌};
 
-use crate::values::Value;
+use crate::values::value_of;
 use hound::{FloatBits, change_bits, float_to_int, int_to_float};
 use hound_row_helpers::row::Row;
 
@@ -17,15 +17,15 @@ pub fn answer(row: &mut Row, name: &str, value: &str, bits: &[&str]) {
     };
     match name {
         "to_float" => {
-            let number = int_to_float(i32::of(row, value), bits);
+            let number = int_to_float(value_of(row, value), bits);
             row.line.hex(&FloatBits::from(number).0.to_be_bytes());
         }
         "to_int" => {
-            let number = FloatBits::of(row, value).to_f32();
-            show(row, float_to_int(number, bits));
+            let pattern: FloatBits = value_of(row, value);
+            show(row, float_to_int(pattern.to_f32(), bits));
         }
         _ => {
-            let sample = i32::of(row, value);
+            let sample = value_of(row, value);
             show(row, change_bits(sample, bits, new_bits));
         }
     }

@@ -3,8 +3,8 @@ ghost use Rattle.std.specs.Prelude.{◌≡◌, ◌≤◌, length};
 ghost use Rattle.hound.specs.{WhereTells};
 
 use crate::kept::{Kept, recorded_of, show_medium, tape_of};
-use crate::values::{Value, push_values, values_of};
-use hound::{Begin, End, FloatBits, Step, WavSpecEx, run_session, run_sessions};
+use crate::values::{push_values, value_of, values_of};
+use hound::{Begin, End, Step, WavSpecEx, run_session, run_sessions};
 use hound_row_helpers::row::{Row, find, name_and_value, parts};
 
 // How many of the steps that aren't marked are listed.
@@ -92,7 +92,7 @@ fn push_step<'a>(row: &mut Row, steps: &mut Vec<Step<'a>>, word: &str, batch: &'
         "flush" => row.push(steps, Step::Flush),
         "batch" => row.push(steps, Step::Batch(batch)),
         "f" => {
-            let bits = FloatBits::of(row, value);
+            let bits = value_of(row, value);
             row.push(steps, Step::Bits(bits));
         }
         _ => {

@@ -14,26 +14,26 @@ pub trait Value: Sample + Copy {
 
     /// The value as a number; for a float that of its pattern.
     fn number(self) -> i64;
+}
 
-    /// The value of this number, if the type has it.
-    fn of_number(number: i64) -> Self {
-        let [a, b, c, d, _, _, _, _] = number.to_le_bytes();
-        Self::of_bytes([a, b, c, d])
-    }
+/// The value of this number, if the type has it.
+pub fn value_of_number<T: Value>(number: i64) -> T {
+    let [a, b, c, d, _, _, _, _] = number.to_le_bytes();
+    T::of_bytes([a, b, c, d])
+}
 
-    /// The value of a word.
-    fn of(row: &mut Row, word: &str) -> Self {
-        let number = if Self::IS_PATTERN {
-            row.hex(word, 4) as i64
-        } else {
-            row.number(word)
-        };
-        let value = Self::of_number(number);
-        if value.number() != number {
-            row.reject();
-        }
-        value
+/// The value of a word.
+pub fn value_of<T: Value>(row: &mut Row, word: &str) -> T {
+    let number = if T::IS_PATTERN {
+        row.hex(word, 4) as i64
+    } else {
+        row.number(word)
+    };
+    let value: T = value_of_number(number);
+    if value.number() != number {
+        row.reject();
     }
+    value
 }
 
 impl Value for i8 {
@@ -103,10 +103,10 @@ fn counted<'a>(row: &mut Row, word: &'a str) -> (&'a str, u32) {
 pub fn push_values<T: Value>(row: &mut Row, values: &mut Vec<T>, word: &str) {
     let (first, count) = counted(row, word);
     let step = if word.contains('+') { 1 } else { 0 };
-    let mut value = T::of(row, first);
+    let mut value: T = value_of(row, first);
     for _ in 0..count {
         row.push(values, value);
-        value = T::of_number(value.number().saturating_add(step));
+        value = value_of_number(value.number().saturating_add(step));
     }
 }
 

@@ -8,7 +8,9 @@ ghost use Rattle.hound.specs.declared.SampleFormat.TheVariants.{Int};
 use hound::{Error, Placed, SampleFormat, Tape, WavSpec, WavSpecEx};
 use std::alloc::Global;
 use std::io::ErrorKind;
+use std::path::PathBuf;
 use std::test::Fail;
+use std::{env, process};
 
 // Integers with these bits and bytes of a sample.
 pub fn integers(channels: u16, sample_rate: u32, bits: u16, bytes_per_sample: u16) -> WavSpecEx {
@@ -57,6 +59,13 @@ pub fn tape_of(alloc: Global, bytes: &[u8]) -> Result<Tape, Fail>
     ensures { IfOk result (λ t. (⟦<Tape as Placed>⟧.state t).place ≡ 0) }
 {
     Ok(Tape::new(bytes.to_vec(alloc)?))
+}
+
+// The path of a file for the tests of this name, which no other process uses.
+pub fn path_of(rt: &HostRuntime, name: &str) -> Result<PathBuf, Fail> {
+    let id = process::id(rt.process());
+    let name = format!(in rt.alloc(); "{name}_{id}.wav")?;
+    Ok(env::temp_dir(rt)?.join(rt.alloc(), name.as_str())?)
 }
 
 // The name of an `IoError` where there was no memory.

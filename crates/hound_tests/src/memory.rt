@@ -1,17 +1,17 @@
 // Calls whose allocations fail, each in turn: all memory is taken by blocks that stay untouched,
 // except for one block, and freed before anything is compared.
 use hound::{
-    Begin, End, Error, Journal, Medium, Placed, SampleFormat, Step, Tape, WavReader, WavWriter,
-    run_session,
+    Begin, End, Error, Journal, Medium, Placed, SampleFormat, Step, Tape, WavReader, WavSpec,
+    WavWriter, run_session,
 };
 use hound_test_helpers::{
-    FOUR_SAMPLES, NO_MEMORY, empty_tape, integers, name_of_answer, sixteen, tape_of,
+    FOUR_SAMPLES, NO_MEMORY, empty_tape, integers, name_of_answer, path_of, sixteen, tape_of,
 };
 use std::alloc::Global;
 use std::io::ErrorKind;
 use std::path::Path;
 use std::test::Fail;
-use std::{env, fs, io, process};
+use std::{fs, io};
 
 // Takes the memory there is in blocks of at most this many bytes, and in ever smaller ones down to
 // the least.
@@ -46,6 +46,14 @@ fn take_all_but(alloc: Global, room: usize) -> Result<Vec<Vec<u8>>, Fail> {
     Ok(blocks)
 }
 
+// The header that is made with only this much memory.
+fn header_with(alloc: Global, spec: WavSpec, room: usize) -> Result<hound::Result<Vec<u8>>, Fail> {
+    let blocks = take_all_but(alloc, room)?;
+    let header = spec.into_header_for_infinite_file(alloc);
+    drop(blocks);
+    Ok(header)
+}
+
 // With enough memory it is the header that is made with all of it.
 #[test]
 fn a_header_of_unknown_length(rt: HostRuntime) -> Result<(), Fail> {
@@ -56,9 +64,7 @@ fn a_header_of_unknown_length(rt: HostRuntime) -> Result<(), Fail> {
         (10, 68, "ok"),
     ] {
         let spec = integers(channels, 16000, 16, 2).spec;
-        let blocks = take_all_but(alloc, room)?;
-        let header = spec.into_header_for_infinite_file(alloc);
-        drop(blocks);
+        let header = header_with(alloc, spec, room)?;
         assert_eq!(rt;
             name_of_answer(&header),
             name,
@@ -262,22 +268,32 @@ fn bytes_of_now(journal: &Journal, alloc: Global) -> hound::Result<Vec<u8>> {
     journal.bytes_after(alloc, journal.taken())
 }
 
-// One of the four samples is an error, and one of no bytes is still there. Both with the same blocks
-// taken: with further blocks taken in between, 52 bytes are at times not enough for the four samples.
-#[test]
-fn a_journal_that_begins(rt: HostRuntime) -> Result<(), Fail> {
-    let alloc = rt.alloc();
+// The names of the answers without memory: of a journal of the four samples, and of one of no bytes. Both with the
+// same blocks taken: with further blocks taken in between, 52 bytes are at times not enough for the four samples.
+fn begun_without_memory(alloc: Global) -> Result<(&'static str, &'static str), Fail> {
     let bytes = FOUR_SAMPLES.to_vec(alloc)?;
     let blocks = take_all_but(alloc, 0)?;
     let rejected = Journal::new(alloc, bytes);
     let empty = Journal::new(alloc, Vec::new(alloc));
     drop(blocks);
-    assert!(rt; matches!(rejected, Err(Error::OutOfMemory)) && empty.is_ok());
+    Ok((name_of_answer(&rejected), name_of_answer(&empty)))
+}
+
+// A journal of the four samples that is made with only this much memory.
+fn journal_with(alloc: Global, room: usize) -> Result<hound::Result<Journal>, Fail> {
     let bytes = FOUR_SAMPLES.to_vec(alloc)?;
-    let blocks = take_all_but(alloc, 52)?;
+    let blocks = take_all_but(alloc, room)?;
     let journal = Journal::new(alloc, bytes);
     drop(blocks);
-    assert!(rt; bytes_of_now(&journal?, alloc)?.as_slice() == FOUR_SAMPLES.as_slice());
+    Ok(journal)
+}
+
+#[test]
+fn a_journal_that_begins(rt: HostRuntime) -> Result<(), Fail> {
+    let alloc = rt.alloc();
+    assert_eq!(rt; begun_without_memory(alloc)?, ("OutOfMemory", "ok"));
+    let journal = journal_with(alloc, 52)??;
+    assert!(rt; bytes_of_now(&journal, alloc)?.as_slice() == FOUR_SAMPLES.as_slice());
     Ok(())
 }
 
@@ -418,10 +434,8 @@ fn opens_as_said(
 // Only the buffer is allocated.
 #[test]
 fn files_that_are_opened(rt: HostRuntime) -> Result<(), Fail> {
+    let path = path_of(&rt, "hound_tests_memory")?;
     let _taken = take_most(rt.alloc())?;
-    let id = process::id(rt.process());
-    let name = format!(in rt.alloc(); "hound_tests_memory_{id}.wav")?;
-    let path = env::temp_dir(&rt)?.join(rt.alloc(), name.as_str())?;
     for (opening, buffer) in [
         (Opening::Open, 8192),
         (Opening::Create, 65536),

@@ -26,6 +26,17 @@ fn a_cursor_is_looked_at(rt: HostRuntime) -> Result<(), Fail> {
     Ok(())
 }
 
+// What a repair of three samples leaves whose calls fail from one to another, and whether it failed.
+fn left_by_repair(alloc: Global, first: u64, last: u64) -> Result<(Vec<u8>, bool), Fail> {
+    let mut journal = Journal::new(alloc, file(alloc, 9, 0)?)?;
+    journal.fail(first, last);
+    let (journal, has_failed) = match repair(journal) {
+        Ok((journal, _)) => (journal, false),
+        Err((journal, _)) => (journal, true),
+    };
+    Ok((journal.bytes_after(alloc, journal.taken())?, has_failed))
+}
+
 #[test]
 fn a_repair_that_fails_is_repaired_again(rt: HostRuntime) -> Result<(), Fail> {
     let alloc = rt.alloc();
@@ -34,17 +45,8 @@ fn a_repair_that_fails_is_repaired_again(rt: HostRuntime) -> Result<(), Fail> {
     let mut failed = 0u32;
     for call in 1..120u64 {
         for last in [call, u64::MAX] {
-            let cut = file(alloc, 9, 0)?;
-            let mut journal = Journal::new(alloc, cut)?;
-            journal.fail(call, last);
-            let journal = match repair(journal) {
-                Ok((journal, _)) => journal,
-                Err((journal, _)) => {
-                    failed = failed.wrapping_add(1);
-                    journal
-                }
-            };
-            let left = journal.bytes_after(alloc, journal.taken())?;
+            let (left, has_failed) = left_by_repair(alloc, call, last)?;
+            failed = failed.wrapping_add(u32::from(has_failed));
             let (tape, _) = repair(Tape::new(left)).ok().ok_or("repaired")?;
             assert_eq!(rt; tape.bytes().starts_with(&mended), true);
         }
