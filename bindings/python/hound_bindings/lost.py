@@ -97,7 +97,7 @@ def _predicted(samples: List[int]) -> _Prediction:
     p11 = p00 + samples[1] ** 2 - samples[-1] ** 2
     p22 = p11 + samples[0] ** 2 - samples[-2] ** 2
     p12 = p01 + samples[0] * samples[1] - samples[-2] * samples[-1]
-    return _prediction(*map(float, (p00, p01, p02, p11, p12, p22)), len(now))
+    return _prediction(float(p00), float(p01), float(p02), float(p11), float(p12), float(p22), len(now))
 
 
 def _prediction(p00: float, p01: float, p02: float, p11: float, p12: float, p22: float, count: int) -> _Prediction:
