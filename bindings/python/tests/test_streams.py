@@ -530,6 +530,8 @@ class Effects(Case):
 
 
 class Recordings(Case):
+    step = 1  # So many bytecodes are from one interruption of a case to the next.
+
     def setUp(self):
         # A sync costs nothing there.
         folder = tempfile.TemporaryDirectory(dir="/dev/shm" if os.path.isdir("/dev/shm") else None)
@@ -677,8 +679,8 @@ class Recordings(Case):
         """Each call is interrupted at each bytecode, and then the recording is continued and closed."""
         cases = itertools.product((False, True), (1, 2, 3), (8, 16, 24))
         for number, (durable, channels, bits) in enumerate(cases):
-            # One of the cases is tried at each bytecode, the others at some.
-            for at in itertools.count(1 + number % 5, 1 if number == 13 else 31):
+            # One of the cases is tried at each bytecode, or each step of them, the others at some.
+            for at in itertools.count(1 + number % 5, self.step if number == 13 else 31):
                 if self.interrupted(at, durable, channels, bits).place is None:
                     break
             self.assertGreater(at, 900)
