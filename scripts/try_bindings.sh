@@ -443,9 +443,9 @@ if has python3 "the Python package" && has "$cc" "the Python package"; then
     has strace "record.c at the edges of a recording" \
         && check "record.c at the edges of a recording, and its wrong versions" python3 bindings/tests/recorder.py
     has strace "repair.c" \
-        && check "files cut at each byte by repair.c, which is killed, fails and loses its power, and its wrong versions" with_package bindings/tests/repairs.py
+        && check "files cut at each byte by repair.c, which is killed, fails and loses its power, and its wrong versions" with_package bindings/tests/repairs.py short
     has strace "repair_file" && has cargo "repair_file" \
-        && check "the same by repair_file of the Cargo package hound" with_package bindings/tests/repairs.py cargo
+        && check "the same by repair_file of the Cargo package hound" with_package bindings/tests/repairs.py cargo short
 fi
 if has cargo "the Cargo crate"; then
     check "the tests of the Cargo crate" cargo_tests rust

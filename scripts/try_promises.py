@@ -8,8 +8,9 @@ All twins of a crate are tried at once, and so are its mutants, as long as each 
 by the contracts of what a function calls. But where a function that it calls isn't proved, the prover doesn't judge it,
 so it is tried again without those edits that have been judged.
 
-usage: scripts/try_promises.py [--beside LOG] [CRATE..]     (every crate with twins where none is named)
-LOG is what an `rt ci` that is running says: each crate waits until those below it are proved.
+usage: scripts/try_promises.py [--beside LOG] [--short] [CRATE..]     (every crate with twins where none is named)
+LOG is what an `rt ci` that is running says: each crate waits until those below it are proved. With --short it leaves
+out the twins with a line `long:`, and their mutants.
 
 It writes a line for each mutant, and last 'promises: N of N mutants rejected, N of N twins accepted'."""
 import argparse
@@ -69,6 +70,12 @@ def read_edit(path, crate):
     with open(os.path.join(crate, file)) as text:
         before = text.read().partition(pairs[-1][0])[0]
     return Edit(os.path.basename(path)[: -len(".edit")], file, pairs, function_at_end(before, file))
+
+
+def is_long(twin):
+    """Whether a twin says that a check of its function takes nearly as long as one of its crate."""
+    with open(twin) as file:
+        return any(line.startswith("long:") for line in file)
 
 
 def function_at_end(text, file):
@@ -187,6 +194,7 @@ def judged(edits, crate, called, work):
 def main():
     parser = argparse.ArgumentParser()
     parser.add_argument("--beside", metavar="LOG")
+    parser.add_argument("--short", action="store_true")
     parser.add_argument("crates", metavar="CRATE", nargs="*")
     given = parser.parse_args()
     for name in given.crates:
@@ -196,6 +204,7 @@ def main():
     for name, (static, libraries) in below().items():
         crate = os.path.join(TOP, "crates", name)
         twins = sorted(glob.glob(os.path.join(crate, "twins", "*.edit")))
+        twins = [twin for twin in twins if not given.short or not is_long(twin)]
         if not twins or given.crates and name not in given.crates:
             continue
         called = words(name, static, libraries, given.beside)

@@ -501,7 +501,7 @@ def main():
         folder = os.path.realpath(folder)
         find_controls(folder)
         runs = order(folder) + kill(folder, count)
-        step = 97 if is_short else 3
+        step = 397 if is_short else 3
         runs += interrupt(folder, step) + interrupt_changes(folder, step)
         runs += share(folder, 8 if is_short else 80) + feed(20 if is_short else 200)
         for one in tasks(is_short):

@@ -4,7 +4,8 @@ and the Python package, which has to write and sync the same: those of the rows,
 byte. Then each of its calls of the system is killed or fails, and from these calls the states are built that a loss of
 power may leave; each is repaired again. Wrong versions have to be found.
 
-usage: repairs.py [cargo]     (with the package hound_bindings on the path, strace, and cc or cargo)"""
+usage: repairs.py [cargo] [short]     (with the package hound_bindings on the path, strace, and cc or cargo)
+With `short` it tries a fifth of the files, and all else as without."""
 import fcntl
 import itertools
 import os
@@ -25,7 +26,7 @@ from rows import TOP, model, repaired_by_model, repairs
 from wav import with_riff
 
 HEADER = 44
-IN_CARGO = sys.argv[1:] == ["cargo"]
+IN_CARGO, IS_SHORT = (word in sys.argv[1:] for word in ("cargo", "short"))
 SOURCE = "rust/src/machines.rs" if IN_CARGO else "c/repair.c"
 # A file of 8 bits and one channel that was cut off, with no pad byte after its 1,099 samples, of which 100 are counted.
 CUT_OFF = head(CASES[1], 100) + STREAM[:1099]
@@ -420,28 +421,33 @@ def check_lock(program, path):
                 raise Wrong("a locked file is repaired")
 
 
-def all_checks(program, path, is_short):
-    """What was tried, the quickest first, since a wrong version is tried until it is found. For these fewer files are
-    enough."""
+def quick_checks(program, path, step):
+    """How many files, errors, calls and losses of power were tried, the quickest first, since a wrong version is tried
+    until it is found. Of so many files that are cut off one is repaired."""
     errors = check_errors(program, path)
     check_read_only(program, path)
     if not IN_CARGO:
         check_kinds(program, path)
     check_lock(program, path)
-    cut = list(cut_files())
-    files = check_files(program, path, ((how, data) for data in cut[:: 60 if is_short else 3] for how in WAYS))
+    some = itertools.islice(cut_files(), 0, None, step)
+    files = check_files(program, path, ((how, data) for data in some for how in WAYS))
     calls = losses = 0
     for how, before in CALLED:
         calls += check_calls(program, path, how, before)
         losses += check_losses(program, path, how, before)
-    if is_short:
-        return ""
+    return files, errors, calls, losses
+
+
+def all_checks(program, path):
+    """All that is tried of a right version."""
+    step = 17 if IS_SHORT else 3
+    files, errors, calls, losses = quick_checks(program, path, step)
     check_same(program, path)
     check_long(program, path)
-    others = (data for number, data in enumerate(cut) if number % 3)
-    files += check_files(program, path, (("mend", data) for data in others))
-    files += check_files(program, path, repairs())
-    return f"{files} files, {errors} errors, {calls} killed or failing calls, {losses} states of a loss of power"
+    others = [data for number, data in enumerate(cut_files()) if number % step]
+    files += check_files(program, path, (("mend", data) for data in others[:: 5 if IS_SHORT else 1]))
+    files += check_files(program, path, itertools.islice(repairs(), 0, None, 5 if IS_SHORT else 1))
+    print(f"repairs: {files} files, {errors} errors, {calls} killed or failing calls, {losses} states of a loss of power")
 
 
 def main():
@@ -452,18 +458,18 @@ def main():
     with tempfile.TemporaryDirectory(dir="/dev/shm" if os.path.isdir("/dev/shm") else None) as folder:
         folder = os.path.realpath(folder)
         path = os.path.join(folder, "a.wav")
-        print(f"repairs: {all_checks(compiled(folder, text), path, False)}", flush=True)
+        all_checks(compiled(folder, text), path)
         if not IN_CARGO:
-            all_checks(compiled(folder, text.replace(*LOST)), path, True)
-            print("repairs: the same with reports that are lost", flush=True)
+            quick_checks(compiled(folder, text.replace(*LOST)), path, 60)
+            print("repairs: the same with reports that are lost")
         for what, (part, other) in WRONG.items():
             if text.count(part) != 1:
                 sys.exit(f"repairs: {SOURCE} has another part than {part}")
             program = compiled(folder, text.replace(part, other))
             try:
-                all_checks(program, path, True)
+                quick_checks(program, path, 60)
             except Wrong as error:
-                print(f"repairs: wrong: {what}: found by {str(error)[:100]}", flush=True)
+                print(f"repairs: wrong: {what}: found by {str(error)[:100]}")
             else:
                 sys.exit(f"repairs: this wrong version isn't found: {what}")
 
