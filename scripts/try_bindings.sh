@@ -196,7 +196,7 @@ has_flags() { grep -q '^flags.*popcnt' /proc/cpuinfo && lacking none true 2> /de
     || { echo \
         "bindings: passed over, since here is no x86-64, or unshare isn't allowed: a processor before x86-64-v2";
         return 1; }; }
-# A compiler for what is only built: it spends a sixth of the time that -O3 takes for hound_c.c.
+# A compiler for checks of how hound_c.c is built: it takes a sixth of the time of -O3, which by_source tests.
 quick_compiler() { printf '#!/bin/sh\nexec %s "$@" -O0\n' "$cc" > "$work/quick" && chmod +x "$work/quick"; }
 # Without a compiler only the library that is carried can be installed. An emulated processor runs the other one alone.
 old_processor() {

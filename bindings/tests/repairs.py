@@ -422,8 +422,8 @@ def check_lock(program, path):
 
 
 def quick_checks(program, path, step):
-    """How many files, errors, calls and losses of power were tried, the quickest first, since a wrong version is tried
-    until it is found. Of so many files that are cut off one is repaired."""
+    """How many files, errors, calls and losses of power were tried. The quickest checks come first, because a wrong
+    version is tried until one of them finds it. Of each `step` files that are cut off one is repaired."""
     errors = check_errors(program, path)
     check_read_only(program, path)
     if not IN_CARGO:
@@ -461,7 +461,7 @@ def main():
         all_checks(compiled(folder, text), path)
         if not IN_CARGO:
             quick_checks(compiled(folder, text.replace(*LOST)), path, 60)
-            print("repairs: the same with reports that are lost")
+            print("repairs: the same with reports that are lost", flush=True)
         for what, (part, other) in WRONG.items():
             if text.count(part) != 1:
                 sys.exit(f"repairs: {SOURCE} has another part than {part}")
@@ -469,7 +469,7 @@ def main():
             try:
                 quick_checks(program, path, 60)
             except Wrong as error:
-                print(f"repairs: wrong: {what}: found by {str(error)[:100]}")
+                print(f"repairs: wrong: {what}: found by {str(error)[:100]}", flush=True)
             else:
                 sys.exit(f"repairs: this wrong version isn't found: {what}")
 

@@ -530,7 +530,7 @@ class Effects(Case):
 
 
 class Recordings(Case):
-    step = 1  # So many bytecodes are from one interruption of a case to the next.
+    step = 1  # How many bytecodes lie between two runs that are interrupted; test_windows.py has a larger one.
 
     def setUp(self):
         # A sync costs nothing there.
@@ -679,7 +679,7 @@ class Recordings(Case):
         """Each call is interrupted at each bytecode, and then the recording is continued and closed."""
         cases = itertools.product((False, True), (1, 2, 3), (8, 16, 24))
         for number, (durable, channels, bits) in enumerate(cases):
-            # One of the cases is tried at each bytecode, or each step of them, the others at some.
+            # One of the cases is interrupted after each step, the others less often.
             for at in itertools.count(1 + number % 5, self.step if number == 13 else 31):
                 if self.interrupted(at, durable, channels, bits).place is None:
                     break

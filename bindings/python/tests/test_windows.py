@@ -197,7 +197,7 @@ class Windows(test_streams.Case):
 
 
 def load_tests(loader, tests, _):
-    test_streams.Recordings.step = 7  # Each bytecode is tried without Windows.
+    test_streams.Recordings.step = 7  # The tests of test_streams.py are interrupted at each bytecode.
     cases = test_files.Files, test_streams.Streams, test_streams.Recordings
     for case in (*cases, test_floats.Floats, test_floats.Specs, test_floats.Objects):
         for name in loader.getTestCaseNames(case):
