@@ -73,7 +73,7 @@ def read_edit(path, crate):
 
 
 def is_long(twin):
-    """Whether a twin says that a check of its function takes nearly as long as one of its crate."""
+    """Whether a twin says that it and its mutant add much to the time that the others take."""
     with open(twin) as file:
         return any(line.startswith("long:") for line in file)
 
