@@ -12,10 +12,25 @@ if ! $offline true 2> /dev/null; then
     echo "$subject: passed over, since unshare isn't allowed here: that pip and cargo need no network"
 fi
 
+# The first Python that has numpy, as Debian's has by its package python3-numpy; else the first on the path.
+python_with_numpy() {
+    local python
+    for python in $(type -ap python3); do
+        ! "$python" -c 'import numpy' 2> /dev/null || { echo "$python"; return; }
+    done
+    command -v python3
+}
+
 # Writes the program of docs/BINDINGS.md, or of another page, that begins with the fence of that language.
 page() { # LANGUAGE [PAGE]
     awk -v fence="\`\`\`$1" \
         '$0 == fence && !done { on = 1; next } /^```/ && on { on = 0; done = 1 } on' "${2:-docs/BINDINGS.md}"
+}
+
+# Lines that name what a check has passed over, out of what it wrote, that of unittest included.
+passed_over() {
+    sed -nE -e "s/^.*(passed over, since .*)$/$subject: \\1/p" \
+        -e "s/^(test[^ ]*) .* skipped ['\"](.*)['\"]$/$subject: passed over, since \\2: \\1/p" "$work/log"
 }
 
 # Runs a command; its output is written where it fails.
@@ -26,6 +41,7 @@ check() { # WHAT COMMAND..
     if (shift; "$@") > "$work/log" 2>&1; then
         passed=$((passed + 1))
         echo "$subject: $1"
+        passed_over
     else
         echo "$subject: FAILED: $1"
         tail -n 20 "$work/log"

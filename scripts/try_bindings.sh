@@ -265,20 +265,17 @@ page_of_rust() {
 }
 python_installed() {
     [ ! -e "${library%a}so" ] || export CC=none # and no compiler
-    python3 -m venv "$work/venv" \
+    "$(python_with_numpy)" -m venv --system-site-packages "$work/venv" \
         && $offline "$python" -m pip install -q --no-index --disable-pip-version-check \
             "git+file://$top#subdirectory=bindings/python"
 }
 python_tests() { local name; for name in "$@";
-    do "$python" "bindings/python/tests/test_$name.py" || return 1; done; }
+    do "$python" "bindings/python/tests/test_$name.py" -v || return 1; done; }
 command_installed() { [ -s "$work/venv/share/man/man1/hound-wav.1" ] \
     && [ "$("$work/venv/bin/hound-wav" --version)" = \
         "hound-wav $("$python" -c 'import hound_bindings as hound; print(hound.__version__)')" ]; }
-has_mypy() { python3 -c 'import mypy' 2> /dev/null \
-    || { echo "bindings: passed over, since mypy isn't here: the types of the Python package (Debian: python3-mypy)";
-        return 1; }; }
 python_types() { cd bindings/python \
-    && MYPYPATH=. python3 -m mypy --strict --cache-dir "$work/mypy" hound_bindings tests/types_of_users.py; }
+    && MYPYPATH=. mypy --strict --cache-dir "$work/mypy" hound_bindings tests/types_of_users.py; }
 python_systems() { "$python" bindings/python/tests/test_windows.py && "$python" bindings/python/tests/test_backend.py; }
 python_faults() { "$python" bindings/tests/python_faults.py 20 short; }
 parts() { "$python" bindings/tests/parts.py 3 short; }
@@ -294,7 +291,7 @@ cargo_of_windows() {
         [ ! -d "$("${cargo%cargo}rustc" --print target-libdir --target x86_64-pc-windows-gnu 2> /dev/null)" ] \
             || { echo "$cargo"; return; }
     done
-    echo "bindings: passed over, since no cargo here builds for Windows: the Cargo crates there (Debian: cargo, libstd-rust-dev-windows)" >&2
+    echo "bindings: passed over, since a cargo for Windows isn't here: the Cargo crates there (Debian: cargo, libstd-rust-dev-windows)" >&2
     return 1
 }
 # Wine ends programs that trace a panic, as Rust does of one within another.
@@ -421,7 +418,7 @@ has python3 "what the packages have of hound.h" \
     && check "the packages have the errors, structs, constants and the version of hound.h" scripts/make_interface.py \
         --check
 if has python3 "the Python package" && has "$cc" "the Python package"; then
-    has_mypy && check "the types of the Python package, by mypy" python_types
+    has mypy "the types of the Python package (Debian: mypy)" && check "the types of the Python package, by mypy" python_types
     check "where HOUND_C_LIB has no library, a line says so" no_library
     if python3 -c 'import ensurepip, venv' 2> /dev/null; then
         check "pip installs the Python package from a clone, here without a C compiler" python_installed

@@ -1134,11 +1134,12 @@ class Damage:
         self.size = self.start - 8 + self.length + self.length % 2
         if self.size > GREATEST:
             raise Rejected("TooLong")
-        if (length, int.from_bytes(data[4:8], "little")) == (self.length, self.size):
-            self.was = "whole"
-        elif looks and is_followed(data[self.start :], length):
+        lacks_pad = self.held == self.length and self.length % 2 == 1
+        if looks and is_followed(data[self.start :], length):
             self.was = "followed"
             self.frames, self.left = divmod(length, frame)
+        elif (length, int.from_bytes(data[4:8], "little")) == (self.length, self.size) and not lacks_pad:
+            self.was = "whole"
         else:
             self.was = "all_counted" if length == self.length else "cut_off"
         self.is_mended = self.was == "cut_off" or self.was == "all_counted" and not looks

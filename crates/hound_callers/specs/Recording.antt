@@ -2,7 +2,7 @@
 use Rattle.std.specs.Prelude.{◌≡◌, ◌⊎◌, ℕ, suc, ◌-◌, ◌*◌, ◌/◌, ◌%◌, ◌==◌, Bool, true, false, List, [], ◌∷◌, ◌++◌, Option, None, Some, Result, Ok, Err, IsOk, ◌<◌, ◌≤◌, drop, length, take}
 use Rattle.std.specs.Borrow.{Bor}
 use Rattle.std.specs.List.{All, flat_map}
-use Rattle.hound.specs.{Ghosts, Accepts, AreKnown, Asked, Begun, Call, Checkpoints, Error, HasPublished, HasRoom, IsFoundAt, IsWhole, KeptWithin, Known, MediumState, ReadsAs, Rejection, Repair, Repairs, SurvivesLoss, WavSpecEx, WriterState, accepted_samples, containers_in, accepted_by_all, found_in, frame_length, if_marked, made, marked, moment, publish, seen, start_of, write}
+use Rattle.hound.specs.{Ghosts, Accepts, AreKnown, Asked, Begun, Call, Checkpoints, Error, HasPublished, HasRoom, IsFoundAt, IsWhole, KeptWithin, Known, MediumState, ReadsAs, Rejection, Repair, Repairs, SurvivesLoss, WavSpecEx, WriterState, accepted_samples, containers_in, accepted_by_all, found_in, frame_length, found_length, if_marked, is_mended, made, marked, mended, moment, publish, seen, start_of, write}
 use Rattle.hound.specs.declared.Error.TheVariants.{OutOfMemory, TooLong}
 
 -- a block is written, and if it is to be published a flush follows
@@ -94,13 +94,15 @@ ReadsSince s file known samples from medium = (calls : List Call) × AreKnown kn
     × ((k : ℕ) → from ≤ k → k ≤ length medium.past → ReadsAs s (start_of s file)
     (found_in file ++ accepted_by_all calls) (moment medium.start medium.past k))
 
--- of what a repair of these contents has left another one finds the same frames, or nothing was written
+-- Of what a repair of these contents has left another one, to its end, finds the same frames, and where it mends the file
+-- leaves what the first one would have left; or nothing was written.
 abbrev pub IsDoneAgain : List ℕ → List ℕ → (ℕ → Type 0) → Type 0
 IsDoneAgain old left premise = (left ≡ old)
     ⊎ ((found : Repair) × (len : ℕ) × (start : ℕ) × IsFoundAt false old found len start
     × (premise start → 1 ≤ frame_length found.spec_ex → (next new : MediumState) (other : Repair)
     → next.contents ≡ left → Repairs false next other new →
-    (other.spec_ex ≡ found.spec_ex) × (other.frames ≡ found.frames)))
+    (other.spec_ex ≡ found.spec_ex) × (other.frames ≡ found.frames)
+    × (is_mended true other.state ≡ true → new.contents ≡ mended start (found_length found) old)))
 
 -- So it is of what a loss of power leaves of a file that was flushed before, if each size is within one sector.
 abbrev pub IsDoneAgainAfterLoss : MediumState → MediumState → Type 0

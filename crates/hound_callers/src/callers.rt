@@ -49,8 +49,9 @@ pub fn finish<M: Medium>(writer: WavWriter<M>) -> (M, hound::Result<()>)
 
 /// Repairs what a recorder has left, whoever made its calls, over whichever medium: it does what `repair_to_end` does
 /// (`repaired`), and no sample is missing that one of the recorder's flushes has published, whether calls failed or the
-/// power went (`none_lost`). Another repair then finds the file whole (`again`). One that failed has written nothing,
-/// or is done again: that finds the same frames (`stopped`). So it is where the power goes meanwhile (`lost`).
+/// power went (`none_lost`). Another repair then finds the same frames and writes nothing (`again`). One that failed has
+/// written nothing, or is done again: that finds the same frames, and leaves what the first one would have left
+/// (`stopped`). So it is where the power goes meanwhile (`lost`).
 pub fn repair_recording<N: Source + Medium>(left: N) -> result::Result<(N, Repair), (N, Error)>
     requires place { WhereTells N.tells ((N.state left).place ≡ 0) }
     ensures repaired { WhereTells N.tells (RepairsMedium false N.state left result) }
@@ -62,7 +63,8 @@ pub fn repair_recording<N: Source + Medium>(left: N) -> result::Result<(N, Repai
         (found_in file ++ accepted_by_all before) (N.state done.0).contents)) }
     ensures again { WhereTells N.tells (IfOk result (λ done. (looks : Bool) (next new : MediumState)
         (other : Repair) → next.contents ≡ (N.state done.0).contents → Repairs looks next other new →
-        (other.state ≡ Whole) × (other.frames ≡ done.1.frames) × (new.contents ≡ next.contents))) }
+        ((other.state ≡ Whole) ⊎ ((other.state ≡ HasChunksAfterData) × IsTrue looks × 1 ≤ done.1.left_over))
+        × (other.frames ≡ done.1.frames) × (new.contents ≡ next.contents))) }
     ensures stopped { WhereTells N.tells (IfErr result (λ rejected.
         IsDoneAgain (N.state left).contents (N.state rejected.0).contents (λ _. ⊤))) }
     ensures lost { WhereKeeps N.tells N.keeps (MatchResult result

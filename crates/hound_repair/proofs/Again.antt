@@ -1,21 +1,22 @@
 -- A file that was repaired is whole.
 use Rattle.std.proofs.lemmas.Grind.{common_steps}
-use Rattle.std.proofs.Common.{◌≡◌, ◌⊎◌, ℕ, ◌+◌, ◌-◌, ◌*◌, ◌/◌, ◌%◌, ◌≤◌, Bool, true, not, IsTrue, List, [], ◌∷◌, ◌++◌, inl, inr, length, drop, sym, ap, ◌∙◌, subst, arith, length-append, length-drop}
+use Rattle.std.proofs.Common.{◌≡◌, ◌⊎◌, ℕ, ◌+◌, ◌-◌, ◌*◌, ◌/◌, ◌%◌, ◌≤◌, Bool, true, false, ◌==◌, ◌&&◌, not, IsTrue, List, [], ◌∷◌, ◌++◌, inl, inr, length, drop, sym, ap, ◌∙◌, subst, arith, eqb-true, length-append, length-drop}
 use Rattle.std.proofs.lemmas.List.{append-nil, drop-append-le}
 use Rattle.std.proofs.Math.Nat.{mul-div_cancel, mul-mod_left}
 use Rattle.std.proofs.lemmas.Nat.{div-add-mod'}
 use Rattle.hound_spec.specs.declared.spec.WavSpecEx.{WavSpecEx}
-use Rattle.hound_spec.specs.{riff_size}
+use Rattle.hound_spec.specs.{padded, riff_size}
 use Rattle.hound_medium.specs.{MediumState}
 use Rattle.hound_walk.specs.{Head}
 use Rattle.hound_walk.proofs.Unique.{heads_agree}
 use Rattle.hound_writer.proofs.Heads.{head_beyond, head_field, head_inside}
 use Rattle.hound_writer.specs.{field}
-use Rattle.hound_repair.specs.Held.{are_right, data_held, ends_with_pad, frame_length, frames_held, held, mended, missing_pad, shown_length, uncounted}
-use Rattle.hound_repair.specs.Repairing.{HasRightLength, IsFoundAt, LeavesFor, Repairs, found_length, is_mended}
+use Rattle.hound_repair.specs.Held.{are_right, data_held, ends_with_pad, frame_length, frames_held, has_pad, held, is_followed, mended, missing_pad, right_length, shown_length, torn_bytes, uncounted}
+use Rattle.hound_repair.specs.Repairing.{HasRightLength, IsFoundAt, LeavesFor, Repairs, found_length, frames_found, is_mended, state_of, torn_found}
 use Rattle.hound_repair.specs.declared.look.Repair.{Repair}
 use Rattle.hound_writer.specs.declared.resuming.RepairState.{RepairState}
 use Rattle.hound_writer.specs.declared.resuming.RepairState.TheVariants.{Whole, HasChunksAfterData, AllCounted}
+use Rattle.hound_repair.proofs.Chunking.{nothing_follows}
 use Rattle.hound_repair.proofs.RightSizes.{frames_are, length_of, not_followed, same_sizes, sizes_of}
 
 -- the bytes held are all data, or all but the last, which is the pad byte
@@ -52,11 +53,22 @@ pub frames_again : (f len n : ℕ) → 1 ≤ f → data_held f (data_held f len 
 unfolding data_held ends_with_pad
 frames_again f len n some = grind (arith, common_steps, mul-div_cancel, mul-mod_left, div-add-mod')
 
+-- no pad byte is missing where none is
+pub has_pad_is : (k n : ℕ) → missing_pad k n ≡ [] → has_pad k n ≡ true
+unfolding has_pad
+has_pad_is k n none = ap (λ pad. length pad == 0) none
+
+-- and one is where it is
+pub has_no_pad : (k n : ℕ) → missing_pad k n ≡ 0 ∷ [] → has_pad k n ≡ false
+unfolding has_pad
+has_no_pad k n one = ap (λ pad. length pad == 0) one
+
 -- the sizes that were put are right
 right_again : (s : WavSpecEx) (start len riff shown n frames : ℕ)
     → len ≡ frames * frame_length s → riff ≡ riff_size start len → frames_held s shown n ≡ frames
+    → has_pad len n ≡ true
     → are_right s start len riff shown n ≡ true
-right_again s start len riff shown n frames len_is riff_is held_is = grind (arith, common_steps)
+right_again s start len riff shown n frames len_is riff_is held_is pad = grind (arith, common_steps)
 
 -- a pad byte is 0, where one is missing
 pad_cases : (k n : ℕ) → (missing_pad k n ≡ []) ⊎ (missing_pad k n ≡ 0 ∷ [])
@@ -133,6 +145,50 @@ module _ (looks : Bool) (old mid : MediumState) (found : Repair) (first : Repair
   pub frames_same : frames_held s (shown_length start all mid.contents) (held start mid.contents) ≡ found.frames
   frames_same = held_after (is_mended (not looks) found.state) first.leaves
 
+-- the pad byte is there after it was written
+pad_again : (k n : ℕ) → has_pad k (n + length (missing_pad k n)) ≡ true
+unfolding has_pad
+pad_again k n = grind (arith, common_steps)
+
+-- where none is missing there is none
+none_missing : (k n : ℕ) → has_pad k n ≡ true → length (missing_pad k n) ≡ 0
+unfolding has_pad
+none_missing k n has = eqb-true _ _ has
+
+-- with its pad byte and no torn frame nothing follows the data
+no_rest : (f len n all : ℕ) → all ≡ data_held f len n / f * f → data_held f len n % f ≡ 0
+    → n + length (missing_pad all n) ≤ padded all
+unfolding data_held ends_with_pad
+no_rest f len n all all_is whole = grind (arith, common_steps, div-add-mod')
+
+-- a file that was found whole has right sizes, and what is right has its pad byte
+whole_right : (right followed counted : Bool) → Whole ≡ state_of right followed counted → right ≡ true
+whole_right right followed counted is = grind (arith, common_steps)
+
+pad_of_right : (riff pad counted : Bool) → ((riff && pad) && counted) ≡ true → pad ≡ true
+pad_of_right riff pad counted is = grind (arith, common_steps)
+
+-- how a file is found whose sizes are right
+right_state : (right again followed counted : Bool) (state : RepairState) → right ≡ true
+    → state ≡ state_of right (again && followed) counted
+    → (state ≡ Whole) ⊎ ((state ≡ HasChunksAfterData) × IsTrue again × (followed ≡ true))
+right_state is_so again followed counted state sizes is = grind (arith, common_steps)
+
+-- neither kind is mended
+right_kept : (all : Bool) (state : RepairState) → (state ≡ Whole) ⊎ (state ≡ HasChunksAfterData)
+    → is_mended all state ≡ false
+right_kept all state is = grind (arith, common_steps)
+
+-- the torn bytes of a file that isn't followed
+torn_are : (state : RepairState) (s : WavSpecEx) (len shown n : ℕ) → (state ≡ HasChunksAfterData → ⊥)
+    → torn_found state s len shown n ≡ torn_bytes s shown n
+torn_are state s len shown n apart = grind (arith, common_steps)
+
+-- the frames of a file whose data length is right, however it is found
+frames_any : (state : RepairState) (s : WavSpecEx) (len shown n frames : ℕ) → 1 ≤ frame_length s
+    → len ≡ frames * frame_length s → frames_held s shown n ≡ frames → frames_found state s len shown n ≡ frames
+frames_any state s len shown n frames some len_is held_is = grind (arith, common_steps, mul-div_cancel)
+
 module _ (looks again : Bool) (old mid next new : MediumState) (found other : Repair)
     (first : Repairs looks old found mid)
     (alone : IsTrue looks → found.state ≡ HasChunksAfterData → ⊥)
@@ -142,14 +198,53 @@ module _ (looks again : Bool) (old mid next new : MediumState) (found other : Re
   apart : found.state ≡ HasChunksAfterData → ⊥
   apart = not_followed looks _ _ _ found.state first.is.state alone
 
+  all_is : found_length found ≡ right_length found.spec_ex
+      (shown_length first.start first.len old.contents) (held first.start old.contents)
+  all_is = length_of looks old.contents found first.len first.start first.is apart
+
   -- the file was whole, or is mended
   is_right : (looks : Bool) (state : RepairState) → (state ≡ HasChunksAfterData → ⊥)
       → (IsTrue looks → state ≡ AllCounted → ⊥) → (state ≡ Whole) ⊎ (is_mended (not looks) state ≡ true)
   is_right looks state not_chunks not_all = grind (arith, common_steps)
 
+  -- a whole file has its pad byte
+  whole_pad : found.state ≡ Whole → has_pad (found_length found) (held first.start old.contents) ≡ true
+  whole_pad whole = ap (λ k. has_pad k (held first.start old.contents)) all_is
+      ∙ pad_of_right _ _ _ (whole_right _ _ _ (sym whole ∙ first.is.state))
+
+  -- what is held after the first repair: what was held, and a pad byte where it was missing
+  held_by : (put : Bool) → LeavesFor put found first.start old mid
+      → (put ≡ false → has_pad (found_length found) (held first.start old.contents) ≡ true)
+      → held first.start mid.contents ≡ held first.start old.contents
+      + length (missing_pad (found_length found) (held first.start old.contents))
+  held_by true leaves pad = grind (arith, common_steps, rest_mended, length-append, head_beyond, head_inside)
+  held_by false leaves pad = grind (arith, common_steps, none_missing)
+
+  held_now : held first.start next.contents ≡ held first.start old.contents
+      + length (missing_pad (found_length found) (held first.start old.contents))
+  held_now = ap (held first.start) same ∙ held_by (is_mended (not looks) found.state) first.leaves
+      (λ kept. elim (is_right looks found.state apart done) [
+        | inl whole ↦ whole_pad whole
+        | inr put ↦ absurd (cc (put, kept))
+      ])
+
+  pad_now : has_pad (found_length found) (held first.start next.contents) ≡ true
+  pad_now = ap (has_pad (found_length found)) held_now ∙ pad_again (found_length found) (held first.start old.contents)
+
+  -- where no torn frame is left nothing follows the data
+  none_follows : found.left_over ≡ 0 → is_followed (found_length found) (drop first.start next.contents) ≡ false
+  none_follows none =
+      let s = found.spec_ex in
+      let n = held first.start old.contents in
+      let shown = shown_length first.start first.len old.contents in
+      let torn : torn_bytes s shown n ≡ 0 = sym (torn_are found.state s first.len shown n apart)
+      ∙ sym first.is.left_over ∙ none in
+      nothing_follows (found_length found) (drop first.start next.contents)
+      (omega (arith, held_now, no_rest (frame_length s) shown n (found_length found) all_is torn))
+
   -- a second repair finds the same frames, and writes nothing
-  pub second_repair : (other.state ≡ Whole) × (other.spec_ex ≡ found.spec_ex) × (other.frames ≡ found.frames)
-      × (new.contents ≡ next.contents)
+  pub second_repair : ((other.state ≡ Whole) ⊎ ((other.state ≡ HasChunksAfterData) × IsTrue again × 1 ≤ found.left_over))
+      × (other.spec_ex ≡ found.spec_ex) × (other.frames ≡ found.frames) × (new.contents ≡ next.contents)
   second_repair =
       let s = found.spec_ex in
       let start = first.start in
@@ -163,6 +258,19 @@ module _ (looks again : Bool) (old mid next new : MediumState) (found other : Re
       let riff = first.riff (is_right looks found.state apart done) in
       let is_right : are_right other.spec_ex second.start second.len (field 4 next.contents)
       (shown_length second.start second.len next.contents) (held second.start next.contents) ≡ true =
-      grind (arith, common_steps, right_again) in
-      let state : other.state ≡ Whole = grind (arith, common_steps, is_right) in
-      grind (arith, common_steps, not)
+      grind (arith, common_steps, right_again, pad_now) in
+      let state = right_state _ again (is_followed second.len (drop second.start next.contents)) _ other.state is_right
+      second.is.state in
+      let kept : is_mended (not again) other.state ≡ false = right_kept (not again) other.state
+      (elim state [ inl whole ↦ inl whole | inr chunks ↦ inr chunks.0 ]) in
+      let frames_held_now : frames_held other.spec_ex (shown_length second.start second.len next.contents)
+      (held second.start next.contents) ≡ found.frames = grind (arith, common_steps) in (
+        elim state [
+          | inl whole ↦ inl whole
+          | inr chunks ↦ inr (chunks.0, chunks.1, grind (arith, common_steps, none_follows))
+        ],
+        agree.0,
+        second.is.frames ∙ frames_any other.state other.spec_ex second.len _ _ found.frames
+            (subst (λ s. 1 ≤ frame_length s) (sym agree.0) sound) (grind (arith, common_steps)) frames_held_now,
+        grind (arith, common_steps),
+      )

@@ -4,7 +4,7 @@ use Rattle.std.proofs.Common.{◌≡◌, ℕ, min, suc, ◌+◌, ◌≤◌, ◌<
 use Rattle.std.specs.Prelude.{◌==◌, bytes_eq}
 use Rattle.std.specs.List.{list_all, list_any}
 use Rattle.hound_spec.specs.{padded}
-use Rattle.hound_repair.specs.Held.{are_at_most, are_chunks, chunk_content, has_known_tag, has_tag, if_some, known_tags, said_length}
+use Rattle.hound_repair.specs.Held.{are_at_most, are_chunks, begins_chunk, chunk_content, ends_with_id3, has_known_tag, has_tag, if_some, is_followed, known_tags, said_length}
 
 -- no bytes are no chunks
 pub none_left : (bytes : List ℕ) → length bytes ≡ 0 → are_chunks bytes ≡ true
@@ -59,6 +59,16 @@ pub no_tag : (bytes : List ℕ) → length bytes < 4 → false ≡ has_known_tag
 unfolding has_known_tag
 no_tag bytes few =
     sym (none_equal known_tags (take 4 bytes) refl (omega (arith, few, length-take 4 bytes)))
+
+-- at most one byte is no chunk
+pub none_in_one : (bytes : List ℕ) → length bytes ≤ 1 → begins_chunk bytes ≡ false
+unfolding chunk_content
+none_in_one bytes few = grind (arith, common_steps, no_tag, no_chunk)
+
+-- nothing follows data after which at most a pad byte is held
+pub nothing_follows : (len : ℕ) (bytes : List ℕ) → length bytes ≤ padded len → is_followed len bytes ≡ false
+unfolding is_followed ends_with_id3
+nothing_follows len bytes few = grind (arith, common_steps, length-drop, none_in_one)
 
 -- the first four bytes show whether there is one
 pub tag_is : (bytes tag : List ℕ) → tag ≡ take 4 bytes

@@ -1,6 +1,6 @@
 -- A look at a file, one part after the other.
 use Rattle.std.proofs.lemmas.Grind.{common_steps}
-use Rattle.std.proofs.Common.{◌≡◌, ℕ, ◌+◌, ◌-◌, ◌≤◌, ◌<◌, Bool, true, false, ◌||◌, nat_lt, List, ◌++◌, length, drop, take, min, ◌^◌, Some, None, Result, Ok, Err, refl, sym, ap, ◌∙◌, arith, length-drop, length-take}
+use Rattle.std.proofs.Common.{◌≡◌, ℕ, ◌+◌, ◌-◌, ◌≤◌, ◌<◌, Bool, true, false, ◌||◌, ◌&&◌, nat_lt, List, ◌++◌, length, drop, take, min, ◌^◌, Some, None, Result, Ok, Err, refl, sym, ap, ◌∙◌, arith, length-drop, length-take}
 use Rattle.std.proofs.lemmas.Bool.{cases_lt}
 use Rattle.std.proofs.lemmas.List.{take-append-le, take-take, take_all, drop-drop}
 use Rattle.std.specs.Result.{is_ok, result_unwrap_or}
@@ -13,9 +13,9 @@ use Rattle.hound_spec.specs.{greatest_u32, is_pair, padded, riff_size}
 use Rattle.hound_repair.proofs.Again.{held_cases, uncounted_cases}
 use Rattle.hound_repair.proofs.RightSizes.{check_fits}
 use Rattle.hound_repair.specs.declared.look.SeenHead.{SeenHead}
-use Rattle.hound_repair.specs.Held.{are_chunks, begins_chunk, chunk_content, ends_with_id3, has_known_tag, held, is_followed, right_length, shown_length, uncounted}
+use Rattle.hound_repair.specs.Held.{are_chunks, begins_chunk, chunk_content, ends_with_id3, has_known_tag, has_pad, held, is_followed, right_length, shown_length, uncounted}
 use Rattle.hound_repair.specs.Repairing.{repair_fault, size_fault, state_of, IsSoundDamage, shown_of}
-use Rattle.hound_repair.specs.Steps.{IsAtChunk, IsFoundAs, IsLengthOf, IsMeasured, IsNotWhole, IsShown, LooksTo, else_followed, followed, has_all, has_right, steps_left, tagged}
+use Rattle.hound_repair.specs.Steps.{IsAtChunk, IsFoundAs, IsLengthOf, IsMeasured, IsSearched, IsShown, LooksTo, else_followed, followed, has_all, has_right, steps_left, tagged}
 use Rattle.hound_writer.specs.declared.resuming.RepairState.TheVariants.{HasChunksAfterData}
 use Rattle.hound_repair.specs.declared.look.Damage.{Damage}
 use Rattle.hound_repair.specs.declared.stages.LookStep.TheVariants.{Found}
@@ -31,18 +31,15 @@ pub mapped_ok : {T E : Type 0} (D : Type 0) (P : E → Type 0) (self : Result T 
 mapped_ok D P (Ok y) x same cases = ap Ok (ap (λ m. result_unwrap_or m y) (sym cases))
 mapped_ok D P (Err e) x same cases = absurd (cc same)
 
--- how a file is found whose sizes aren't right, by whether something follows its data
-pub known_by : (looks : Bool) (file : List ℕ) (head : SeenHead) (b : Bool)
-    → IsNotWhole looks file head → followed file head ≡ b
-    → IsFoundAs looks file head (state_of false b (has_all file head))
-known_by looks file head b not is = cc (not.wrong, not.looks_for, is)
-
-pub found_followed : (looks : Bool) (file : List ℕ) (head : SeenHead) → IsNotWhole looks file head
+-- how a file is found whose data something follows, where that is looked for
+pub found_followed : (looks : Bool) (file : List ℕ) (head : SeenHead) → IsSearched looks file head
     → followed file head ≡ true → IsFoundAs looks file head HasChunksAfterData
-found_followed looks file head not is = known_by looks file head true not is
+found_followed looks file head at is =
+    let both : (looks && followed file head) ≡ true = cc (at.looks_for, is) in
+    sym (ap (λ b. state_of (has_right file head) b (has_all file head)) both)
 
 -- a file that is measured and found so is what a look finds
-found_so : (looks : Bool) (file : List ℕ) (d : Damage) → IsMeasured file d
+pub found_so : (looks : Bool) (file : List ℕ) (d : Damage) → IsMeasured file d
     → IsFoundAs looks file d.head d.state → LooksTo looks file (Ok (Found d))
 found_so looks file d m state = (
   record {
@@ -56,18 +53,6 @@ found_so looks file d m state = (
   m.held_is,
   λ _. m.shown_is,
 )
-
--- also where nothing that follows is looked for
-found_to_end : (file : List ℕ) (d : Damage) → IsMeasured file d → has_right file d.head ≡ false
-    → LooksTo false file (Ok (Found d))
-found_to_end file d m wrong =
-    found_so false file d m (m.state ∙ (λ i. state_of (sym wrong i) false (has_all file d.head)))
-
--- what is measured leads there where nothing follows the data
-pub found_unfollowed : (looks : Bool) (file : List ℕ) (d : Damage) → IsMeasured file d
-    → IsNotWhole looks file d.head → followed file d.head ≡ false → LooksTo looks file (Ok (Found d))
-found_unfollowed looks file d m not is =
-    found_so looks file d m (m.state ∙ known_by looks file d.head false not is)
 
 -- too few bytes for an ID3v1 tag
 pub no_id3 : (len : ℕ) (bytes : List ℕ) → length bytes < len + 128 → ends_with_id3 len bytes ≡ false
@@ -106,7 +91,7 @@ pub after_padded : (file : List ℕ) (head : SeenHead) → followed file head
 unfolding is_followed
 after_padded file head = refl
 
-pub begin_padded : (looks : Bool) (file : List ℕ) (head : SeenHead) → IsNotWhole looks file head
+pub begin_padded : (looks : Bool) (file : List ℕ) (head : SeenHead) → IsSearched looks file head
     → padded head.data_length < held head.data_start file
     → IsAtChunk looks file head (head.data_start + padded head.data_length) true
 begin_padded looks file head not before = grind (arith, common_steps, begins_there, after_padded)
@@ -175,10 +160,10 @@ pub pass_both : (wide : Bool) (file : List ℕ) (head : SeenHead)
 pass_both true file head few = pass_last file head (few refl)
 pass_both false file head few = refl
 
--- at a chunk there are two parts to come and more
-pub two_left : (n place : ℕ) (head : SeenHead) (wide : Bool) → 2 ≤ steps_left n (stages.Chunk head place wide)
-two_left n place head true = omega arith
-two_left n place head false = omega arith
+-- at a chunk there are three parts to come and more
+pub three_left : (n place : ℕ) (head : SeenHead) (wide : Bool) → 3 ≤ steps_left n (stages.Chunk head place wide)
+three_left n place head true = omega arith
+three_left n place head false = omega arith
 
 -- sizes that are rejected by what is counted of a file are rejected by what it holds
 pub sizes_rejected : (s : WavSpecEx) (counted len start n m : ℕ) → size_fault s counted start m ≡ Some too_long
@@ -186,30 +171,6 @@ pub sizes_rejected : (s : WavSpecEx) (counted len start n m : ℕ) → size_faul
     → is_pair s.spec.sample_format s.spec.bits_per_sample s.bytes_per_sample ≡ true
     → repair_fault s len start n ≡ Some too_long
 sizes_rejected s counted len start n m fails same pair = written s len start n pair ∙ sym same ∙ fails
-
--- whether both sizes are right, by those that are measured
-wrong_sizes : (file : List ℕ) (d : Damage) → IsSoundDamage d → IsMeasured file d
-    → ((field 4 file ≡ d.sizes.riff_size) → (d.head.data_length ≡ d.sizes.data_length) → ⊥)
-    → has_right file d.head ≡ false
-wrong_sizes file d sound m wrong =
-    grind (arith, common_steps, sound.sizes.riff, sound.sizes.length_is, m.held_is, m.shown_is)
-
--- where nothing that follows is looked for
-pub found_wrong : (file : List ℕ) (d : Damage) → IsSoundDamage d → IsMeasured file d
-    → ((field 4 file ≡ d.sizes.riff_size) → (d.head.data_length ≡ d.sizes.data_length) → ⊥)
-    → LooksTo false file (Ok (Found d))
-found_wrong file d sound m wrong = found_to_end file d m (wrong_sizes file d sound m wrong)
-
--- sizes that aren't right, where chunks are looked for
-pub not_whole : (looks : Bool) (file : List ℕ) (d : Damage) → IsSoundDamage d → IsMeasured file d → looks ≡ true
-    → ((field 4 file ≡ d.sizes.riff_size) → (d.head.data_length ≡ d.sizes.data_length) → ⊥)
-    → IsNotWhole looks file d.head
-not_whole looks file d sound m looking wrong = record {
-  looks_for = looking;
-  head_is = m.head_is;
-  shown_is = λ _. m.shown_is;
-  wrong = wrong_sizes file d sound m wrong;
-}
 
 -- the file ends where what is held ends
 pub end_is : (file : List ℕ) (d : Damage) → IsMeasured file d → d.head.data_start + d.held ≡ length file
@@ -245,6 +206,31 @@ pub tag_length : (size : ℕ) (file : List ℕ) (d : Damage) → IsLengthOf size
     → d.head.data_start + d.held ≤ size → IsSoundDamage d → size ≡ length file
 tag_length size file d same m inside sound =
     grind (arith, common_steps, cases_lt, check_fits, end_is, too_long_file, shown_small)
+
+-- and it has fewer bytes than any RIFF size says
+pub measured_small : (file : List ℕ) (d : Damage) → IsSoundDamage d → IsMeasured file d → length file < 2 ^ 33
+measured_small file d sound m =
+    grind (arith, common_steps, cases_lt, check_fits, end_is, too_long_file, shown_small)
+
+-- how a file is found whose data nothing follows, by whether its sizes are right and no pad byte is missing
+pub found_by_sizes : (looks : Bool) (file : List ℕ) (head : SeenHead) (right : Bool)
+    → (looks && followed file head) ≡ false → has_right file head ≡ right
+    → IsFoundAs looks file head (state_of right false (has_all file head))
+found_by_sizes looks file head right none is = cc (none, is)
+
+-- whether both sizes are right, by those that are measured
+pub right_sizes_are : (file : List ℕ) (d : Damage) → IsSoundDamage d → IsMeasured file d
+    → field 4 file ≡ d.sizes.riff_size → d.head.data_length ≡ d.sizes.data_length
+    → has_pad d.sizes.data_length d.held ≡ true → has_right file d.head ≡ true
+right_sizes_are file d sound m riff len pad =
+    grind (arith, common_steps, sound.sizes.riff, sound.sizes.length_is, m.held_is, m.shown_is, riff, len, pad)
+
+pub wrong_sizes_are : (file : List ℕ) (d : Damage) → IsSoundDamage d → IsMeasured file d
+    → ((field 4 file ≡ d.sizes.riff_size) → (d.head.data_length ≡ d.sizes.data_length)
+    → has_pad d.sizes.data_length d.held ≡ true → ⊥)
+    → has_right file d.head ≡ false
+wrong_sizes_are file d sound m wrong =
+    grind (arith, common_steps, sound.sizes.riff, sound.sizes.length_is, m.held_is, m.shown_is)
 
 -- the check fails by the data length that a look saw as it does by the one that the file shows
 pub shown_serves : (s : WavSpecEx) (start : ℕ) (head : SeenHead) (file : List ℕ) → IsSoundSpec s

@@ -49,13 +49,18 @@ right_length s len n = frames_held s len n * frame_length s
 abbrev pub counts_all : WavSpecEx → ℕ → ℕ → ℕ → Bool
 counts_all s len shown n = len == right_length s shown n
 
--- both sizes are right: the data length, and the RIFF size with it
-abbrev pub are_right : WavSpecEx → ℕ → ℕ → ℕ → ℕ → ℕ → Bool
-are_right s start len riff shown n = (riff == riff_size start (right_length s shown n)) && counts_all s len shown n
-
 -- the pad byte that is missing, where data of an odd length end with the file
 abbrev pub missing_pad : ℕ → ℕ → List ℕ
 missing_pad data_length n = if n == data_length then padding data_length else []
+
+-- no pad byte is missing after data of this length, where n bytes are held
+unfoldable pub has_pad : ℕ → ℕ → Bool
+has_pad data_length n = length (missing_pad data_length n) == 0
+
+-- both sizes are right, the data length and the RIFF size with it, and no pad byte is missing
+abbrev pub are_right : WavSpecEx → ℕ → ℕ → ℕ → ℕ → ℕ → Bool
+are_right s start len riff shown n =
+    ((riff == riff_size start (right_length s shown n)) && has_pad (right_length s shown n) n) && counts_all s len shown n
 
 -- the contents with the sizes of data of this length, and the pad byte where it is missing
 abbrev pub mended : ℕ → ℕ → List ℕ → List ℕ

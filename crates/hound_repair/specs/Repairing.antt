@@ -44,11 +44,11 @@ abbrev pub unfollowed_state : Bool → RepairState
 unfollowed_state true = AllCounted
 unfollowed_state false = CutOff
 
--- how a file is found, by whether both sizes are right, whether chunks follow the data, and whether the data length is
--- right
+-- how a file is found, by whether both sizes are right and no pad byte is missing, whether chunks follow the data, and
+-- whether the data length is right
 abbrev pub state_of : Bool → Bool → Bool → RepairState
-state_of true followed counted = Whole
-state_of false true counted = HasChunksAfterData
+state_of right true counted = HasChunksAfterData
+state_of true false counted = Whole
 state_of false false counted = unfollowed_state counted
 
 -- Whether a file that was found so is mended: one that was cut off, and one whose samples are all counted only on

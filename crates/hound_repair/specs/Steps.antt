@@ -46,23 +46,23 @@ use Rattle.hound_repair.specs.declared.stages.LookStep.TheVariants.{Next, Found}
 abbrev pub stage_place : Stage → ℕ → ℕ
 stage_place (stages.Head walk) length = part_start walk.part walk.taken
 stage_place (stages.Last head) length = head.data_start + head.data_length
-stage_place (stages.Size head) length = 4
 stage_place (stages.Chunk head place padded) length = place
 stage_place (stages.Tag head) length = length - 128
+stage_place (stages.Size head) length = 4
 
 abbrev pub asked_count : Stage → ℕ
 asked_count (stages.Head walk) = part_length walk.part
 asked_count (stages.Last head) = 1
-asked_count (stages.Size head) = 4
 asked_count (stages.Chunk head place padded) = 8
 asked_count (stages.Tag head) = 3
+asked_count (stages.Size head) = 4
 
 -- Table: which part of a file a look requests, by its stage (Stage, Bytes, Place).
 -- | Head | as many as the next part of the header has | after the parts before |
 -- | Last | 1 | after the data that the header counts |
--- | Size | 4 | that of the RIFF size |
 -- | Chunk | 8 | after the data, or after the chunk before |
 -- | Tag | 3 | 128 bytes before the end |
+-- | Size | 4 | that of the RIFF size |
 abbrev pub asks_for : Stage → ℕ → Action
 asks_for stage n = Read (stage_place stage n) (asked_count stage)
 
@@ -90,19 +90,24 @@ has_all file head =
 abbrev pub IsShown : List ℕ → SeenHead → Type 0
 IsShown file head = length file < 2 ^ 33 → shown_of head ≡ shown_length head.data_start head.data_length file
 
--- a file with this head whose sizes aren't right, and after whose data chunks are looked for
-pub record IsNotWhole (looks : Bool) (file : List ℕ) (head : SeenHead) : Type 0 where
+-- a file with this head, after whose data chunks are looked for
+pub record IsSearched (looks : Bool) (file : List ℕ) (head : SeenHead) : Type 0 where
   pub looks_for : looks ≡ true
   pub head_is : Head file head.spec_ex head.data_length head.data_start
   pub shown_is : IsShown file head
-  pub wrong : has_right file head ≡ false
+
+-- nothing that follows the data of a file with this head is found or looked for, unless it has more bytes than any RIFF
+-- size says
+abbrev pub IsNotFollowed : Bool → List ℕ → SeenHead → Type 0
+IsNotFollowed looks file head = Head file head.spec_ex head.data_length head.data_start × IsShown file head
+    × (length file < 2 ^ 33 → (looks && followed file head) ≡ false)
 
 -- once no chunk begins after the data, an ID3v1 tag decides
 abbrev pub tagged : List ℕ → SeenHead → Bool
 tagged file head = ends_with_id3 head.data_length (drop head.data_start file)
 
 abbrev pub IsAtEnd : Bool → List ℕ → SeenHead → Type 0
-IsAtEnd looks file head = IsNotWhole looks file head × (followed file head ≡ tagged file head)
+IsAtEnd looks file head = IsSearched looks file head × (followed file head ≡ tagged file head)
 
 -- what decides if the bytes from a place on are no chunks: those without a pad byte before them, too
 abbrev pub else_followed : Bool → List ℕ → SeenHead → Bool
@@ -111,7 +116,7 @@ else_followed false file head = tagged file head
 
 -- something follows the data if the bytes from a place on are chunks, or else what decides then
 abbrev pub IsAtChunk : Bool → List ℕ → SeenHead → ℕ → Bool → Type 0
-IsAtChunk looks file head place padded = IsNotWhole looks file head
+IsAtChunk looks file head place padded = IsSearched looks file head
     × (followed file head ≡ (are_chunks (drop place file) || else_followed padded file head))
 
 -- what is known of a file when a look asks for a part
@@ -119,9 +124,9 @@ abbrev pub IsAtStage : Bool → List ℕ → Stage → Type 0
 IsAtStage looks file (stages.Head walk) = IsAt file walk
 IsAtStage looks file (stages.Last head) = Head file head.spec_ex head.data_length head.data_start
     × (length file < 2 ^ 33 → held head.data_start file ≡ head.data_length + 1)
-IsAtStage looks file (stages.Size head) = Head file head.spec_ex head.data_length head.data_start × IsShown file head
 IsAtStage looks file (stages.Chunk head place padded) = IsAtChunk looks file head place padded
 IsAtStage looks file (stages.Tag head) = IsAtEnd looks file head × (head.data_length + 128 ≤ held head.data_start file)
+IsAtStage looks file (stages.Size head) = IsNotFollowed looks file head
 
 -- so many bytes are in the file, or both are more than any RIFF size says
 abbrev pub IsLengthOf : ℕ → List ℕ → Type 0
@@ -174,9 +179,9 @@ IsSoundHead head = IsSoundSpec head.spec_ex × IsDataPlace head.data_start
 abbrev pub IsSoundStage : Stage → Type 0
 IsSoundStage (stages.Head walk) = IsSoundOption walk.found
 IsSoundStage (stages.Last head) = IsSoundHead head
-IsSoundStage (stages.Size head) = IsSoundHead head
 IsSoundStage (stages.Chunk head place padded) = IsSoundHead head
 IsSoundStage (stages.Tag head) = IsSoundHead head
+IsSoundStage (stages.Size head) = IsSoundHead head
 
 abbrev pub IsSoundLook : LookStep → Type 0
 IsSoundLook (Next stage) = IsSoundStage stage
@@ -184,16 +189,51 @@ IsSoundLook (Found d) = IsSoundDamage d
 
 -- how many parts a look at a file of so many bytes may still ask for
 abbrev pub steps_left : ℕ → Stage → ℕ
-steps_left n (stages.Tag head) = 1
-steps_left n (stages.Chunk head place false) = 2 + (n - place)
-steps_left n (stages.Chunk head place true) = 3 + n + (n - place)
-steps_left n (stages.Size head) = 4 + n + n
+steps_left n (stages.Size head) = 1
+steps_left n (stages.Tag head) = 2
+steps_left n (stages.Chunk head place false) = 3 + (n - place)
+steps_left n (stages.Chunk head place true) = 4 + n + (n - place)
 steps_left n (stages.Last head) = 5 + n + n
 steps_left n (stages.Head walk) = 6 + n + n + parts_left walk.part walk.taken
 
 abbrev pub StageNearer : ℕ → ℕ → LookStep → Type 0
 StageNearer n left (Next stage) = steps_left n stage < left
 StageNearer n left (Found d) = ⊤
+
+-- the head that is known when a look asks for a part; none before the data are found
+abbrev pub head_of : Stage → Option SeenHead
+head_of (stages.Head walk) = None
+head_of (stages.Last head) = Some head
+head_of (stages.Chunk head place padded) = Some head
+head_of (stages.Tag head) = Some head
+head_of (stages.Size head) = Some head
+
+-- a head that is known later is the same one, but for whether a sample follows the data
+abbrev pub IsSameHead : SeenHead → SeenHead → Type 0
+IsSameHead head later = (later.spec_ex ≡ head.spec_ex) × (later.data_length ≡ head.data_length)
+    × (later.data_start ≡ head.data_start)
+
+abbrev pub StaysWith : Stage → Stage → Type 0
+StaysWith (stages.Head walk) next = ⊤
+StaysWith (stages.Last head) next = (later : SeenHead) × (head_of next ≡ Some later) × IsSameHead head later
+StaysWith stage next = head_of next ≡ head_of stage
+
+-- what is found of a file of n bytes has the head that was known, and is inside of it; nothing is found before all of
+-- the head is known
+abbrev pub IsFoundFrom : ℕ → Stage → Damage → Type 0
+IsFoundFrom n (stages.Head walk) d = ⊥
+IsFoundFrom n (stages.Last head) d = ⊥
+IsFoundFrom n stage d = (head_of stage ≡ Some d.head) × (d.head.data_start + d.held ≤ n)
+
+-- where a look goes on from a part of a file of n bytes, whatever was read
+abbrev pub IsLookFrom : ℕ → Stage → LookStep → Type 0
+IsLookFrom n stage (Next next) = StaysWith stage next
+IsLookFrom n stage (Found d) = IsFoundFrom n stage d
+
+-- where it goes on of a file that was measured
+abbrev pub IsLookOf : Damage → LookStep → Type 0
+IsLookOf d (Next next) = head_of next ≡ Some d.head
+IsLookOf d (Found found) = (found.head ≡ d.head) × (found.held ≡ d.held)
 
 -- the pad byte and its sync, where it is missing
 abbrev pub pads : ℕ → List ℕ → List Effect
@@ -388,22 +428,22 @@ abbrev pub WhereRead : Task → ℕ → List ℕ → Stage → (List ℕ → Typ
 WhereRead task n bytes stage P = (file : List ℕ) → IsLengthOf n file
     → IsAtStage (looks_for_chunks task) file stage → IsAsked n stage file bytes → P file
 
--- the bytes of a part that no file may lack which has a head: its RIFF size
-abbrev pub AreEnough : Stage → List ℕ → Type 0
-AreEnough (stages.Size head) bytes = 4 ≤ length bytes
-AreEnough _ bytes = ⊤
+-- these are no fewer bytes than a file of n has of the part that was requested
+abbrev pub AreEnough : ℕ → Stage → List ℕ → Type 0
+AreEnough n stage bytes = min (asked_count stage) (min n (2 ^ 33) - stage_place stage n) ≤ length bytes
 
--- What a part that was read leads to, whatever bytes were handed in. Of a RIFF size of fewer than four bytes nothing is
+-- What a part that was read leads to, whatever bytes were handed in. Where these are fewer than the file has, nothing is
 -- found.
 -- | Looks, and another part decides | done | that part, after which fewer are left |
 -- | Looks, and the file is known | done | the first effect, and Mends; or what was found, and Found |
 -- | Looks, at bytes that aren't repaired | done | their error, and stays as it is |
 abbrev pub AsksPart : Task → ℕ → List ℕ → Stage → Repairing → Result RepairStep RepairError → Type 0
-AsksPart task n bytes stage new (Ok ask) = AreEnough stage bytes
+AsksPart task n bytes stage new (Ok ask) = AreEnough n stage bytes
     × (((next : Stage) × (new ≡ states.Looks next) × (ask ≡ Asks (asks_for next n))
-    × (steps_left n next < steps_left n stage)
+    × (steps_left n next < steps_left n stage) × StaysWith stage next
     × WhereRead task n bytes stage (λ file. IsAtStage (looks_for_chunks task) file next))
-    ⊎ ((d : Damage) × IsSoundDamage d × AsksEffect task d 0 ask new × WhereRead task n bytes stage (λ file.
+    ⊎ ((d : Damage) × IsSoundDamage d × IsFoundFrom n stage d × AsksEffect task d 0 ask new
+    × WhereRead task n bytes stage (λ file.
     IsFoundAt (looks_for_chunks task) file (repair_of d) d.head.data_length d.head.data_start
     × (d.held ≡ held d.head.data_start file) × IsShown file d.head)))
 AsksPart task n bytes stage new (Err (errors.Rejected why)) = (new ≡ states.Looks stage)

@@ -1,5 +1,5 @@
 // What holds of every repair.
-ghost use Rattle.std.specs.Prelude.{◌≡◌, ◌-◌, ◌/◌, ◌<◌, ◌≤◌, ℕ, Bool, IsTrue, List, None, Ok, Result, length};
+ghost use Rattle.std.specs.Prelude.{◌≡◌, ◌-◌, ◌/◌, ◌<◌, ◌≤◌, ◌⊎◌, ℕ, Bool, true, not, IsTrue, List, None, Ok, Result, length};
 ghost use Rattle.std.specs.List.{concat, AllByRecursion};
 ghost use Rattle.hound_medium.specs.{MediumState, Span};
 ghost use Rattle.hound_durable.specs.{SurvivesLoss};
@@ -15,8 +15,8 @@ ghost use Rattle.hound_repair.specs.declared.machine.RepairStep.TheVariants.{Ask
 ghost use Rattle.hound_repair.specs.declared.machine.Repairing.{Repairing};
 ghost use Rattle.hound_repair.specs.declared.stages.Task.{Task};
 ghost use Rattle.hound_repair.specs.Steps.{AsksNext, effects_left, IsLookedAt, IsNotRepaired, Mends, PartlyMended, mending};
-ghost use Rattle.hound_repair.specs.Held.{frame_length, held, shown_length};
-ghost use Rattle.hound_repair.specs.Repairing.{Finds, IsFoundAt, IsNoPad, ReadsFrames, Repairs, found_length, repair_fault};
+ghost use Rattle.hound_repair.specs.Held.{frame_length, held, mended, shown_length};
+ghost use Rattle.hound_repair.specs.Repairing.{Finds, IsFoundAt, IsNoPad, ReadsFrames, Repairs, found_length, is_mended, repair_fault};
 ghost use Rattle.hound_repair.specs.declared.look.Repair.{Repair};
 ghost use Rattle.hound_writer.specs.declared.resuming.RepairState.TheVariants.{AllCounted, HasChunksAfterData, Whole};
 
@@ -41,7 +41,8 @@ pub fn a_repair_keeps_stored_samples()
         → IsNotRepaired looks old new e → IsIoError e }
 {}
 
-/// A second repair of a file finds it whole, with the same frames, and writes nothing.
+/// A second repair of a file finds the same frames, and writes nothing. It finds the file whole, unless bytes of a torn
+/// frame are left that look like chunks.
 ///
 /// It holds of contents as the first repair left them, unless that found chunks after the data, or that all samples
 /// were counted. [`repair`](crate::repair) leaves such a file as it is, and finds the same again.
@@ -50,8 +51,8 @@ pub fn a_second_repair_writes_nothing()
         → Repairs looks old found mid → (IsTrue looks → found.state ≡ HasChunksAfterData → ⊥)
         → (IsTrue looks → found.state ≡ AllCounted → ⊥) → 1 ≤ frame_length found.spec_ex → next.contents ≡ mid.contents
         → Repairs again next other new →
-        (other.state ≡ Whole) × (other.spec_ex ≡ found.spec_ex) × (other.frames ≡ found.frames)
-        × (new.contents ≡ next.contents) }
+        ((other.state ≡ Whole) ⊎ ((other.state ≡ HasChunksAfterData) × IsTrue again × 1 ≤ found.left_over))
+        × (other.spec_ex ≡ found.spec_ex) × (other.frames ≡ found.frames) × (new.contents ≡ next.contents) }
 {}
 
 /// A look reports what a repair of the same bytes would (`found`), and once it has found something, a repair fails only
@@ -81,17 +82,23 @@ pub fn effects_mend()
         PartlyMended d.head.data_start d.sizes.data_length old.state.contents left }
 {}
 
-/// Wherever the effects of a repair stop, another repair finds the same frames, by either call (`same`), and fails no
-/// check (`fault`).
+/// Wherever the effects of a repair stop, another repair finds the same frames, by either call (`same`), fails no check
+/// (`fault`), and where it mends the file leaves what the first one would have left (`finished`).
 ///
 /// A data length that is half written may lead to bytes that look like chunks, and then [`repair`](crate::repair)
-/// reports these; [`repair_to_end`](crate::repair_to_end) doesn't look for them.
+/// reports these; [`repair_to_end`](crate::repair_to_end) doesn't look for them. Where only the pad byte was missing,
+/// `repair` finds all samples counted, and `repair_to_end` writes it.
 pub fn a_stopped_repair_is_done_again()
     ensures same { (looks again : Bool) (old : List ℕ) (mid new : MediumState) (found other : Repair) (len start : ℕ)
         → IsFoundAt looks old found len start → (found.state ≡ HasChunksAfterData → ⊥) → 1 ≤ frame_length found.spec_ex
         → PartlyMended start (found_length found) old mid.contents
         → Repairs again mid other new → (IsTrue again → other.state ≡ HasChunksAfterData → ⊥) →
         (other.spec_ex ≡ found.spec_ex) × (other.frames ≡ found.frames) }
+    ensures finished { (looks again : Bool) (old : List ℕ) (mid new : MediumState) (found other : Repair)
+        (len start : ℕ) → IsFoundAt looks old found len start → (found.state ≡ HasChunksAfterData → ⊥)
+        → 1 ≤ frame_length found.spec_ex → PartlyMended start (found_length found) old mid.contents
+        → Repairs again mid other new → is_mended (not again) other.state ≡ true →
+        new.contents ≡ mended start (found_length found) old }
     ensures fault { (looks : Bool) (old : List ℕ) (mid : MediumState) (found : Repair) (len start : ℕ)
         → IsFoundAt looks old found len start → (found.state ≡ HasChunksAfterData → ⊥) → 1 ≤ frame_length found.spec_ex
         → PartlyMended start (found_length found) old mid.contents →

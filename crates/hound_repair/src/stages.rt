@@ -1,8 +1,8 @@
 // Which parts of a file a look at it asks for, and where each leads.
-ghost use Rattle.std.specs.Prelude.{◌≡◌, ℕ, ◌+◌, ◌-◌, ◌≤◌, Bool, List, Ok, true, IfOk, length, nat_lt, slice_index, take, drop};
+ghost use Rattle.std.specs.Prelude.{◌≡◌, ℕ, ◌+◌, ◌-◌, ◌≤◌, ◌^◌, Bool, List, Ok, Some, true, IfOk, length, min, nat_le, nat_lt, slice_index, take, drop};
 ghost use Rattle.hound_walk.specs.{Head, IsAt, IsDataPlace, IsSoundOption, IsSoundSpec, part_bytes};
 ghost use Rattle.hound_repair.specs.Repairing.{IsSoundDamage, unfollowed_state};
-ghost use Rattle.hound_repair.specs.Steps.{AreEnough, IsAsked, IsAtChunk, IsAtEnd, IsAtStage, IsFoundAs, IsLengthOf, IsMeasured, IsNotWhole, IsSoundHead, IsSoundLook, IsSoundStage, IsUnfollowed, IsShown, LooksTo, MeasuresTo, StageNearer, asked_count, asks_for, stage_place, looks_for_chunks, mends_for, else_followed, followed, steps_left};
+ghost use Rattle.hound_repair.specs.Steps.{AreEnough, IsAsked, IsAtChunk, IsAtEnd, IsAtStage, IsFoundAs, IsLengthOf, IsLookFrom, IsLookOf, IsMeasured, IsNotFollowed, IsSearched, IsSoundHead, IsSoundLook, IsSoundStage, IsUnfollowed, IsShown, LooksTo, MeasuresTo, StageNearer, asked_count, asks_for, head_of, stage_place, looks_for_chunks, mends_for, else_followed, followed, steps_left};
 ghost use Rattle.hound_repair.specs.declared.stages.Stage.TheVariants as stages;
 
 use crate::look::{
@@ -59,12 +59,12 @@ pub enum Stage {
     Head(HeadWalk),
     /// The single byte after the data, of a file with this head.
     Last(SeenHead),
-    /// The RIFF size.
-    Size(SeenHead),
     /// What may be a chunk's header at this place; `true` if those after the pad byte come first.
     Chunk(SeenHead, u64, bool),
     /// What may be an ID3v1 tag at the end.
     Tag(SeenHead),
+    /// The RIFF size, once nothing was found that follows the data.
+    Size(SeenHead),
 }
 
 // Where one part leads.
@@ -173,6 +173,7 @@ fn found_as(damage: Damage, state: RepairState) -> LookStep
     ensures leads { (looks : Bool) (file : List ℕ) → IsMeasured file damage
         → IsFoundAs looks file damage.head state → LooksTo looks file (Ok result) }
     ensures sound { IsSoundLook result }
+    ensures of { IsLookOf damage result }
     ensures nearer { (n left : ℕ) → StageNearer n left result }
 {
     LookStep::Found(Damage { state, ..damage })
@@ -184,21 +185,23 @@ fn at_end(damage: Damage) -> LookStep
     ensures leads { (looks : Bool) (file : List ℕ) → IsMeasured file damage
         → IsAtEnd looks file damage.head → LooksTo looks file (Ok result) }
     ensures sound { IsSoundLook result }
-    ensures nearer { (n left : ℕ) → 2 ≤ left → StageNearer n left result }
+    ensures of { IsLookOf damage result }
+    ensures nearer { (n left : ℕ) → 3 ≤ left → StageNearer n left result }
 {
     let length = damage.head.data_length as u64;
     if length + ID3_LENGTH <= damage.held {
         return LookStep::Next(Stage::Tag(damage.head));
     }
-    LookStep::Found(damage)
+    LookStep::Next(Stage::Size(damage.head))
 }
 
 // On, where no chunk begins at a place, which was that after the pad byte.
 fn at_no_chunk(damage: Damage, padded: bool) -> LookStep
     requires sound { IsSoundDamage damage }
-    ensures leads { (looks : Bool) (file : List ℕ) → IsMeasured file damage → IsNotWhole looks file damage.head
+    ensures leads { (looks : Bool) (file : List ℕ) → IsMeasured file damage → IsSearched looks file damage.head
         → (followed file damage.head ≡ else_followed padded file damage.head) → LooksTo looks file (Ok result) }
     ensures sound { IsSoundLook result }
+    ensures of { IsLookOf damage result }
     ensures nearer { (n place : ℕ) → damage.head.data_start + damage.held ≤ n
         → StageNearer n (steps_left n (stages.Chunk damage.head place padded)) result }
 {
@@ -210,45 +213,23 @@ fn at_no_chunk(damage: Damage, padded: bool) -> LookStep
     at_end(damage)
 }
 
-// On, where the sizes aren't right and chunks are looked for.
-fn after_sizes(damage: Damage) -> LookStep
+// Takes the RIFF size, where nothing that follows the data was found or looked for.
+fn take_size(damage: Damage, bytes: &[u8]) -> LookStep
     requires sound { IsSoundDamage damage }
-    ensures leads { (looks : Bool) (file : List ℕ) → IsMeasured file damage
-        → IsNotWhole looks file damage.head → LooksTo looks file (Ok result) }
+    requires enough { 4 ≤ length bytes.now }
+    ensures leads { (looks : Bool) (file : List ℕ) → IsMeasured file damage → IsNotFollowed looks file damage.head
+        → (bytes.now ≡ take 4 (drop 4 file)) → LooksTo looks file (Ok result) }
     ensures sound { IsSoundLook result }
-    ensures nearer { (n : ℕ) → damage.head.data_start + damage.held ≤ n
-        → StageNearer n (steps_left n (stages.Size damage.head)) result }
+    ensures of { IsLookOf damage result }
+    ensures nearer { (n left : ℕ) → StageNearer n left result }
 {
-    let length = damage.head.data_length as u64;
-    let padded = length + length % 2;
-    if padded < damage.held {
-        let place = damage.head.data_start + padded;
-        return LookStep::Next(Stage::Chunk(damage.head, place, true));
-    }
-    at_no_chunk(damage, true)
-}
-
-// Takes the RIFF size.
-fn take_size(task: Task, damage: Damage, bytes: &[u8]) -> Result<LookStep, Unrepairable>
-    requires sound { IsSoundDamage damage }
-    ensures leads { (file : List ℕ) → IsMeasured file damage → (bytes.now ≡ take 4 (drop 4 file))
-        → LooksTo (looks_for_chunks task) file result }
-    ensures sound { IfOk result IsSoundLook }
-    ensures nearer { (n : ℕ) → damage.head.data_start + damage.held ≤ n
-        → IfOk result (StageNearer n (steps_left n (stages.Size damage.head))) }
-    ensures enough { IfOk result (λ _. 4 ≤ length bytes.now) }
-{
-    if bytes.len() < 4 {
-        return Err(Unrepairable::Head(Cause::Ended));
-    }
     let sizes = damage.sizes;
-    if u32_at(bytes, 0) == sizes.riff_size && damage.head.data_length == sizes.data_length {
-        return Ok(found_as(damage, RepairState::Whole));
+    let are_right = u32_at(bytes, 0) == sizes.riff_size
+        && damage.head.data_length == sizes.data_length;
+    if are_right && !damage.lacks_pad() {
+        return found_as(damage, RepairState::Whole);
     }
-    if task == Task::RepairToEnd {
-        return Ok(LookStep::Found(damage));
-    }
-    Ok(after_sizes(damage))
+    LookStep::Found(damage)
 }
 
 // Takes what may be the header of a chunk at this place.
@@ -258,6 +239,7 @@ fn take_chunk(damage: Damage, place: u64, padded: bool, bytes: &[u8]) -> LookSte
         → IsAtChunk looks file damage.head place padded → (bytes.now ≡ take 8 (drop place file))
         → LooksTo looks file (Ok result) }
     ensures sound { IsSoundLook result }
+    ensures of { IsLookOf damage result }
     ensures nearer { (n : ℕ) → damage.head.data_start + damage.held ≤ n
         → StageNearer n (steps_left n (stages.Chunk damage.head place padded)) result }
 {
@@ -281,20 +263,40 @@ fn take_tag(damage: Damage, bytes: &[u8]) -> LookStep
         → IsAtStage looks file (stages.Tag damage.head)
         → (bytes.now ≡ take 3 (drop (length file - 128) file)) → LooksTo looks file (Ok result) }
     ensures sound { IsSoundLook result }
-    ensures nearer { (n left : ℕ) → StageNearer n left result }
+    ensures of { IsLookOf damage result }
+    ensures nearer { (n left : ℕ) → 2 ≤ left → StageNearer n left result }
 {
     if bytes == ID3_TAG.as_slice() {
         return found_as(damage, RepairState::HasChunksAfterData);
     }
-    LookStep::Found(damage)
+    LookStep::Next(Stage::Size(damage.head))
 }
 
-// What is requested once the head is found: the byte after the data, if it is the only one, or the RIFF size.
-fn after_head(length: u64, head: FileHead) -> Stage
+// What is requested once it is known which data length the file shows: what may be a chunk after the data, where chunks
+// are looked for and more than a pad byte follows; else the RIFF size.
+fn after_data(length: u64, task: Task, head: SeenHead) -> Stage
+    requires sound { IsSoundHead head }
+    ensures at { (file : List ℕ) → IsLengthOf length file
+        → Head file head.spec_ex head.data_length head.data_start → IsShown file head
+        → IsAtStage (looks_for_chunks task) file result }
+    ensures sound { IsSoundStage result }
+    ensures of { head_of result ≡ Some head }
+    ensures near { steps_left length result ≤ 4 + length + length }
+{
+    let data_length = head.data_length as u64;
+    let place = head.data_start + data_length + data_length % 2;
+    if task != Task::RepairToEnd && place < length.min(LIMIT) {
+        return Stage::Chunk(head, place, true);
+    }
+    Stage::Size(head)
+}
+
+// What is requested once the head is found: the byte after the data, if it is the only one, or what comes after that.
+fn after_head(length: u64, task: Task, head: FileHead) -> Stage
     requires place { IsDataPlace head.data_start }
     requires sound { IsSoundSpec head.spec_ex }
-    ensures at { (looks : Bool) (file : List ℕ) → IsLengthOf length file
-        → Head file head.spec_ex head.data_length head.data_start → IsAtStage looks file result }
+    ensures at { (file : List ℕ) → IsLengthOf length file → Head file head.spec_ex head.data_length head.data_start
+        → IsAtStage (looks_for_chunks task) file result }
     ensures sound { IsSoundStage result }
     ensures near { steps_left length result ≤ 5 + length + length }
 {
@@ -307,7 +309,7 @@ fn after_head(length: u64, head: FileHead) -> Stage
     if length == head.data_start + head.data_length as u64 + 1 {
         return Stage::Last(seen);
     }
-    Stage::Size(seen)
+    after_data(length, task, seen)
 }
 
 // Whether a single byte after the data, which is this if there is one, is a sample.
@@ -318,32 +320,50 @@ fn is_sample(bytes: &[u8]) -> bool
 }
 
 // Takes the byte after the data.
-fn take_last(head: SeenHead, bytes: &[u8]) -> LookStep
+fn take_last(length: u64, task: Task, head: SeenHead, bytes: &[u8]) -> LookStep
     requires sound { IsSoundHead head }
-    ensures leads { (looks : Bool) (file : List ℕ) → IsAtStage looks file (stages.Last head)
-        → (bytes.now ≡ take 1 (drop (head.data_start + head.data_length) file)) → LooksTo looks file (Ok result) }
+    ensures leads { (file : List ℕ) → IsLengthOf length file → IsAtStage (looks_for_chunks task) file (stages.Last head)
+        → (bytes.now ≡ take 1 (drop (head.data_start + head.data_length) file))
+        → LooksTo (looks_for_chunks task) file (Ok result) }
     ensures sound { IsSoundLook result }
-    ensures nearer { (n : ℕ) → StageNearer n (steps_left n (stages.Last head)) result }
+    ensures from { IsLookFrom length (stages.Last head) result }
+    ensures nearer { StageNearer length (steps_left length (stages.Last head)) result }
 {
-    LookStep::Next(Stage::Size(SeenHead {
+    let seen = SeenHead {
         has_more: is_sample(bytes),
         ..head
-    }))
+    };
+    LookStep::Next(after_data(length, task, seen))
 }
 
 // Takes a part of the header.
-fn take_header(length: u64, walk: HeadWalk, bytes: &[u8]) -> Result<LookStep, Unrepairable>
+fn take_header(
+    length: u64,
+    task: Task,
+    walk: HeadWalk,
+    bytes: &[u8],
+) -> Result<LookStep, Unrepairable>
     requires sound { IsSoundOption walk.found }
-    ensures leads { (looks : Bool) (file : List ℕ) → IsLengthOf length file → IsAt file walk
-        → (bytes.now ≡ part_bytes walk file) → LooksTo looks file result }
+    ensures leads { (file : List ℕ) → IsLengthOf length file → IsAt file walk → (bytes.now ≡ part_bytes walk file)
+        → LooksTo (looks_for_chunks task) file result }
     ensures sound { IfOk result IsSoundLook }
+    ensures from { IfOk result (IsLookFrom length (stages.Head walk)) }
     ensures nearer { IfOk result (StageNearer length (steps_left length (stages.Head walk))) }
 {
     match take_part(walk, bytes) {
         Ok(Step::Next(next)) => Ok(LookStep::Next(Stage::Head(next))),
-        Ok(Step::Data(head)) => Ok(LookStep::Next(after_head(length, head))),
+        Ok(Step::Data(head)) => Ok(LookStep::Next(after_head(length, task, head))),
         Err(cause) => Err(Unrepairable::Head(cause)),
     }
+}
+
+// Whether these are all bytes that a file of so many has of the part that was requested.
+fn are_enough(size: u64, stage: Stage, bytes: &[u8]) -> bool
+    requires { IsSoundStage stage }
+    ensures { result ≡ nat_le (min (asked_count stage) (min size (2 ^ 33) - stage_place stage size)) (length bytes.now) }
+{
+    let left = size.min(LIMIT).saturating_sub(stage.place(size));
+    bytes.len() as u64 >= left.min(stage.count() as u64)
 }
 
 // Takes the bytes that a look asks for, fewer only at the end of the file, and returns where they lead: to another
@@ -360,16 +380,20 @@ pub(crate) fn take_asked(
         → LooksTo (looks_for_chunks task) file result }
     ensures sound { IfOk result IsSoundLook }
     ensures nearer { IfOk result (StageNearer length (steps_left length stage)) }
-    ensures enough { IfOk result (λ _. AreEnough stage bytes.now) }
+    ensures enough { IfOk result (λ _. AreEnough length stage bytes.now) }
+    ensures from { IfOk result (IsLookFrom length stage) }
 {
+    if !are_enough(length, stage, bytes) {
+        return Err(Unrepairable::Head(Cause::Ended));
+    }
     match stage {
-        Stage::Head(walk) => take_header(length, walk, bytes),
-        Stage::Last(head) => Ok(take_last(head, bytes)),
-        Stage::Size(head) => take_size(task, measured(length, head)?, bytes),
+        Stage::Head(walk) => take_header(length, task, walk, bytes),
+        Stage::Last(head) => Ok(take_last(length, task, head, bytes)),
         Stage::Chunk(head, place, padded) => {
             let damage = measured(length, head)?;
             Ok(take_chunk(damage, place, padded, bytes))
         }
         Stage::Tag(head) => Ok(take_tag(measured(length, head)?, bytes)),
+        Stage::Size(head) => Ok(take_size(measured(length, head)?, bytes)),
     }
 }

@@ -20,10 +20,12 @@ ends_whole f = nat_lt 0 (found_frame f) && ((f.data_length % found_frame f == 0)
     && (nat_le (f.frames * found_frame f) f.data_length
     && nat_le f.length (f.data_start + f.data_length + f.data_length % 2)))
 
--- Table: how a recorder continues a file, by what it was found as (File, Allowed, the recorder then).
--- | `Whole` or `AllCounted` | nothing | continues after the samples that are counted, and cuts the rest off |
--- | `CutOff`, whose header counts whole frames | to mend | continues after all whole frames, by a checkpoint |
--- | `CutOff`, whose header counts a part of a frame | to mend | none: `UnfinishedFrame`, to be repaired first |
+-- Table: how a recorder continues a file, by the first row that applies to it (File, Allowed, the recorder then).
+-- | any that lacks samples which are counted | nothing | none: `Truncated` |
+-- | any that ends with the whole frames that are counted, or with their pad byte | nothing | continues after them |
+-- | `Whole` or `AllCounted` | nothing | continues after the samples that are counted, and cuts off a torn frame |
+-- | `CutOff`, whose header counts no more than the whole frames | to mend | continues after all whole frames, by a checkpoint |
+-- | `CutOff`, whose header counts more | to mend | none: `UnfinishedFrame`, to be repaired first |
 -- | `CutOff` | nothing | none: `NeedsMend` |
 -- | `HasChunksAfterData` | to overwrite | continues after the samples that are counted, and cuts the chunks off |
 -- | `HasChunksAfterData` | nothing | none: `NeedsOverwrite` |
@@ -35,9 +37,8 @@ kept_as states.CutOff f mends overwrites =
 kept_as states.AllCounted f mends overwrites = Ok f.data_length
 kept_as states.HasChunksAfterData f mends overwrites = if overwrites then Ok f.data_length else Err NeedsOverwrite
 
--- how many bytes of data are kept, where samples lack or nothing follows those that the header counts; else as above
--- | any that lacks samples which are counted | nothing | none: `Truncated` |
--- | any that ends with the samples that are counted, or with their pad byte | nothing | continues after them |
+-- how many bytes of data are kept, where samples are missing or nothing follows those that the header counts; else as
+-- above
 abbrev pub kept_length : FoundFile → Bool → Bool → Result ℕ RecorderError
 kept_length f mends overwrites =
     if nat_lt f.length (f.data_start + f.data_length) then Err Truncated

@@ -1,9 +1,9 @@
-use Rattle.std.proofs.Common.{◌≡◌, ◌∙◌, ◌≤◌, ℕ, ◌-◌, ◌/◌, Bool, IsTrue, List, false, true, ap, Result, Ok, Err, IfErr, IfOk, MatchResult, inl, inr, subst, sym}
+use Rattle.std.proofs.Common.{◌≡◌, ◌∙◌, ◌≤◌, ℕ, ◌-◌, ◌/◌, Bool, IsTrue, List, false, true, not, ap, Result, Ok, Err, IfErr, IfOk, MatchResult, inl, inr, subst, sym}
 use Rattle.std.specs.Prelude.{⊤}
 use Rattle.std.proofs.lemmas.Bool.{false≢true}
 use Rattle.std.proofs.lemmas.Nat.{mul-le}
 use Rattle.std.proofs.lemmas.Result.{MatchResult-weaker}
-use Rattle.hound.specs.{IsFoundAt, IsSoundSpec, MediumState, MendsThroughLoss, PartlyMended, Repair, Repairs, WavSpecEx, found_length, frame_length, is_mended}
+use Rattle.hound.specs.{IsFoundAt, IsSoundSpec, MediumState, MendsThroughLoss, PartlyMended, Repair, Repairs, WavSpecEx, found_length, frame_length, is_mended, mended}
 use Rattle.hound.specs.declared.RepairState.TheVariants.{HasChunksAfterData}
 use Rattle.hound_callers.specs.Recording.{IsDoneAgain, IsDoneAgainAfterLoss}
 use Rattle.hound_callers.proofs.callers.repair_recording.Goals as goal
@@ -47,18 +47,29 @@ done_again : ((looks again : Bool) (old : List ℕ) (mid new : MediumState) (fou
     → PartlyMended start (found_length found) old mid.contents → Repairs again mid other new
     → (IsTrue again → other.state ≡ HasChunksAfterData → ⊥)
     → (other.spec_ex ≡ found.spec_ex) × (other.frames ≡ found.frames))
+    → ((looks again : Bool) (old : List ℕ) (mid new : MediumState) (found other : Repair) (len start : ℕ)
+    → IsFoundAt looks old found len start → (found.state ≡ HasChunksAfterData → ⊥) → 1 ≤ frame_length found.spec_ex
+    → PartlyMended start (found_length found) old mid.contents → Repairs again mid other new
+    → is_mended (not again) other.state ≡ true
+    → new.contents ≡ mended start (found_length found) old)
     → (old left : List ℕ) (premise : ℕ → Type 0) (found : Repair) (len start : ℕ) → IsFoundAt false old found len start
     → is_mended true found.state ≡ true → (premise start → PartlyMended start (found_length found) old left)
     → IsDoneAgain old left premise
-done_again law old left premise found len start is state half = inr (
+done_again law finished old left premise found len start is state half = inr (
   found,
   len,
   start,
   is,
-  λ here positive next new other same again. law false false old next new found other len start is
-      (λ chunks. let h : false ≡ true = sym (ap (is_mended true) chunks) ∙ state in cc h) positive
-      (subst (PartlyMended start (found_length found) old) (sym same) (half here))
-      again (λ looks here. absurd (false≢true looks)),
+  λ here positive next new other same again.
+      let apart : found.state ≡ HasChunksAfterData → ⊥ =
+      λ chunks. let h : false ≡ true = sym (ap (is_mended true) chunks) ∙ state in cc h in
+      let partly = subst (PartlyMended start (found_length found) old) (sym same) (half here) in
+      let found_same = law false false old next new found other len start is apart positive partly again
+      (λ looks here. absurd (false≢true looks)) in (
+        found_same.0,
+        found_same.1,
+        finished false false old next new found other len start is apart positive partly again,
+      ),
 )
 
 pub returns-clause-stopped : goal.returns-clause-stopped
@@ -68,7 +79,8 @@ returns-clause-stopped g c modelled =
       | inl (fault, here, names, none, all) ↦ inl none.stays.contents
       | inr (io, inl none, one) ↦ inl none.stays.contents
       | inr (io, inr (found, len, start, is, state, half), one) ↦
-          done_again c.a_stopped_repair_is_done_again.ensures.same old.contents _ (λ _. ⊤) found len start is state
+          done_again c.a_stopped_repair_is_done_again.ensures.same c.a_stopped_repair_is_done_again.ensures.finished
+          old.contents _ (λ _. ⊤) found len start is state
           (λ _. half)
     ])
 
@@ -78,19 +90,26 @@ through_loss : ((looks again : Bool) (old : List ℕ) (mid new : MediumState) (f
     → PartlyMended start (found_length found) old mid.contents → Repairs again mid other new
     → (IsTrue again → other.state ≡ HasChunksAfterData → ⊥)
     → (other.spec_ex ≡ found.spec_ex) × (other.frames ≡ found.frames))
+    → ((looks again : Bool) (old : List ℕ) (mid new : MediumState) (found other : Repair) (len start : ℕ)
+    → IsFoundAt looks old found len start → (found.state ≡ HasChunksAfterData → ⊥) → 1 ≤ frame_length found.spec_ex
+    → PartlyMended start (found_length found) old mid.contents → Repairs again mid other new
+    → is_mended (not again) other.state ≡ true
+    → new.contents ≡ mended start (found_length found) old)
     → (old new : MediumState) → MendsThroughLoss false old new → IsDoneAgainAfterLoss old new
-through_loss law old new mends sector left settled wide lost =
+through_loss law finished old new mends sector left settled wide lost =
     elim (mends sector left settled wide lost) [
       | inl same ↦ inl same
       | inr (found, len, start, is, state, half) ↦
-          done_again law old.contents left (λ start. (start - 4) / sector ≡ (start - 1) / sector) found len start is
+          done_again law finished old.contents left (λ start. (start - 4) / sector ≡ (start - 1) / sector) found len start is
           state half
     ]
 
 pub returns-clause-lost : goal.returns-clause-lost
 returns-clause-lost g c modelled kept =
     MatchResult-weaker c.repair_to_end.result (c.repair_to_end.ensures.lost modelled kept)
-    (λ done mends. through_loss c.a_stopped_repair_is_done_again.ensures.same (g.N.Placed.state c.args.left)
+    (λ done mends. through_loss c.a_stopped_repair_is_done_again.ensures.same
+    c.a_stopped_repair_is_done_again.ensures.finished (g.N.Placed.state c.args.left)
     (g.N.Placed.state done.0) mends)
-    (λ rejected mends. through_loss c.a_stopped_repair_is_done_again.ensures.same (g.N.Placed.state c.args.left)
+    (λ rejected mends. through_loss c.a_stopped_repair_is_done_again.ensures.same
+    c.a_stopped_repair_is_done_again.ensures.finished (g.N.Placed.state c.args.left)
     (g.N.Placed.state rejected.0) mends)

@@ -5,4 +5,5 @@ use Rattle.hound_repair.proofs.Stepping.{none_counted}
 use Rattle.hound_repair.proofs.stages.after_head.Goals as goal
 
 pub returns-clause-at : goal.returns-clause-at
-returns-clause-at c = grind (arith, common_steps, length-drop, head_inside, none_counted)
+returns-clause-at c = λ file size head. c.after_data.ensures.at file size head
+    (λ small. grind (arith, common_steps, length-drop, head_inside, none_counted))

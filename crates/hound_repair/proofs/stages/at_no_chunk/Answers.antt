@@ -1,6 +1,6 @@
 use Rattle.std.proofs.lemmas.Grind.{common_steps}
 use Rattle.std.proofs.Common.{◌∙◌, arith}
-use Rattle.hound_repair.proofs.Stepping.{pass_both, two_left}
+use Rattle.hound_repair.proofs.Stepping.{pass_both, three_left}
 use Rattle.hound_repair.proofs.stages.at_no_chunk.Goals as goal
 
 pub returns-clause-leads : goal.returns-clause-leads
@@ -9,4 +9,4 @@ returns-clause-leads c = λ looks file m not is. c.at_end.ensures.leads looks fi
 
 pub returns-clause-nearer : goal.returns-clause-nearer
 returns-clause-nearer c = λ n place inside.
-    c.at_end.ensures.nearer n _ (two_left n place c.args.damage.head c.args.padded)
+    c.at_end.ensures.nearer n _ (three_left n place c.args.damage.head c.args.padded)

@@ -1,28 +1,28 @@
-use Rattle.std.proofs.Common.{◌-◌, ◌∙◌, sym, ap, subst, take, drop}
-use Rattle.hound_repair.specs.Steps.{IsAtChunk, IsAtStage, StageNearer, looks_for_chunks, steps_left}
+use Rattle.std.proofs.Common.{◌-◌, ◌∙◌, sym, ap, subst, take, drop, arith}
+use Rattle.hound_repair.specs.Steps.{IsAtChunk, IsAtStage, IsNotFollowed, StageNearer, looks_for_chunks, steps_left}
 use Rattle.hound_repair.specs.declared.stages.Stage.TheVariants as stages
 use Rattle.hound_repair.proofs.Stepping.{tag_length}
 use Rattle.hound_repair.proofs.stages.take_asked.Goals as goal
 
 pub returns-in-Head-clause-leads : goal.returns-in-Head-clause-leads
 returns-in-Head-clause-leads c = λ file size at is.
-    c.take_header.ensures.leads _ file size (rw c.in-Head.is at at) (rw c.in-Head.is at is)
+    c.take_header.ensures.leads file size (rw c.in-Head.is at at) (rw c.in-Head.is at is)
 
 pub returns-in-Last-clause-leads : goal.returns-in-Last-clause-leads
 returns-in-Last-clause-leads c = λ file size at is.
-    c.take_last.ensures.leads _ file (rw c.in-Last.is at at) (rw c.in-Last.is at is)
+    c.take_last.ensures.leads file size (rw c.in-Last.is at at) (rw c.in-Last.is at is)
 
 pub returns-in-Last-clause-nearer : goal.returns-in-Last-clause-nearer
-returns-in-Last-clause-nearer c = rw c.in-Last.is (c.take_last.ensures.nearer c.args.length)
+returns-in-Last-clause-nearer c = rw c.in-Last.is c.take_last.ensures.nearer
 
 pub returns-in_ok-measured-in-Size-clause-leads : goal.returns-in_ok-measured-in-Size-clause-leads
 returns-in_ok-measured-in-Size-clause-leads c = λ file size at is. let there = rw c.in-Size.is at at in
-    c.take_size.ensures.leads file (c.in_ok-measured-in-Size.ensures.measures file size there.0 there.1)
+    c.take_size.ensures.leads _ file (c.in_ok-measured-in-Size.ensures.measures file size there.0 there.1)
+    (subst (IsNotFollowed (looks_for_chunks c.args.task) file) (sym c.in_ok-measured-in-Size.ensures.head) there)
     (rw c.in-Size.is at is)
 
 pub returns-in_ok-measured-in-Size-clause-nearer : goal.returns-in_ok-measured-in-Size-clause-nearer
-returns-in_ok-measured-in-Size-clause-nearer c =
-    rw c.in-Size.is (c.take_size.ensures.nearer c.args.length c.in_ok-measured-in-Size.ensures.inside)
+returns-in_ok-measured-in-Size-clause-nearer c = c.take_size.ensures.nearer _ _
 
 pub returns-in_ok-damage-in-Chunk-clause-leads : goal.returns-in_ok-damage-in-Chunk-clause-leads
 returns-in_ok-damage-in-Chunk-clause-leads c = λ file size at is. let there = rw c.in-Chunk.is at at in
@@ -49,4 +49,4 @@ returns-in_ok-measured-in-Tag-clause-leads c = λ file size at is. let there = r
     (tag_length c.args.length file c.in_ok-measured-in-Tag.field-0 size m seen.inside seen.sound))
 
 pub returns-in_ok-measured-in-Tag-clause-nearer : goal.returns-in_ok-measured-in-Tag-clause-nearer
-returns-in_ok-measured-in-Tag-clause-nearer c = c.take_tag.ensures.nearer _ _
+returns-in_ok-measured-in-Tag-clause-nearer c = rw c.in-Tag.is (c.take_tag.ensures.nearer _ _ (omega arith))
