@@ -100,12 +100,13 @@ enum { HOUND_INT = 0, HOUND_FLOAT = 1 };
 
 /* How hound_repair found a file. */
 enum {
-    HOUND_WHOLE = 0,                 /* both sizes were right */
+    HOUND_WHOLE = 0,                 /* both sizes were right, no pad byte was missing, and at most bytes of a torn frame
+                                        followed */
     HOUND_CUT_OFF = 1,               /* the data length was wrong, as after a recording that was cut off */
     HOUND_HAS_CHUNKS_AFTER_DATA = 2, /* chunks or a tag follow the data */
     HOUND_ALL_COUNTED = 3            /* the data length counts all whole frames, so no sample is concerned: only the
-                                        RIFF size isn't that of the canonical form, as where a program writes no pad
-                                        byte after data of an odd length */
+                                        RIFF size isn't that of the canonical form, or the pad byte after data of an
+                                        odd length is missing */
 };
 
 /* Integers are written with 8, 16, 24 (in 3 or 4 bytes) and 32 bits, floats with 32 bits. */
@@ -306,8 +307,9 @@ void hound_repairer_begin(uint64_t length, uint32_t mode, hound_repairer *repair
    pad byte, in the order in which a kill or a loss of power loses no sample and invents none, and a sync comes
    between two writes: of all that there is, the RIFF size, the data length, the pad byte. So there are at most seven
    effects that write or sync, and a look at a file reads few parts of it: after each effect that is reported as done
-   fewer are left, whatever was read. After an error, or where it was stopped, the file can be repaired by another
-   repairer. Where nothing is to be written it syncs nothing: so after a repair that was stopped before its last sync,
+   fewer are left, whatever was read. A part that was read in fewer bytes than the file has of it by its length is
+   HOUND_ENDED, because what wasn't read may be a chunk. After an error, or where it was stopped, the file can be repaired by
+   another repairer. Where nothing is to be written it syncs nothing: so after a repair that was stopped before its last sync,
    a loss of power may leave the file as it was before that. */
 int32_t hound_repairer_next(hound_repairer *repairer, hound_repair_t *found) HOUND_NONNULL;
 
@@ -418,9 +420,10 @@ enum {
 };
 
 /* Begins a recorder of a file as a repairer of HOUND_FIND_DAMAGE found it; `allowed` is a sum of what it may do. A file
-   that ends with the samples that its header counts, or with their pad byte, needs neither. Where samples are missing
-   that the header counts it is HOUND_TRUNCATED; where the header counts a part of a frame, too, HOUND_MEND is rejected
-   as HOUND_UNFINISHED_FRAME, since a recorder never cuts off what is counted: repair the file first. Where the
+   that ends with the whole frames that its header counts, or with their pad byte, needs neither, and one that is whole
+   but for bytes of a torn frame doesn't, either: these are cut off. Where samples are missing that the header counts it
+   is HOUND_TRUNCATED; where the header counts more than the whole frames, HOUND_MEND is rejected as
+   HOUND_UNFINISHED_FRAME, since a recorder never cuts off what is counted: repair the file first. Where the
    recording has to survive a loss of power, sync the file before the repairer looks at it, because what it finds may
    not be stored yet. Returns 0 or an error. */
 int32_t hound_recorder_resume(const hound_repair_t *found, uint32_t allowed, hound_recorder *recorder) HOUND_NONNULL;

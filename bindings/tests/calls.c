@@ -882,6 +882,81 @@ static void repairers(void) {
     }
 }
 
+/* Both sizes are right, and less than a frame follows: a recorder cuts off bytes of a torn frame alone without leave. */
+static void short_rests(void) {
+    static const struct { const char *bytes; uint32_t length, state; int32_t code; } rests[] = {
+        {"TAG", 128, HOUND_HAS_CHUNKS_AFTER_DATA, HOUND_NEEDS_OVERWRITE},
+        {"LIST\4\0\0\0INFO", 12, HOUND_HAS_CHUNKS_AFTER_DATA, HOUND_NEEDS_OVERWRITE},
+        {"abcd\4\0\0\0INFO", 12, HOUND_HAS_CHUNKS_AFTER_DATA, HOUND_NEEDS_OVERWRITE},
+        {"\1\2\3", 100, HOUND_WHOLE, 0},
+    };
+    static uint8_t file[300 + 128];
+    static const int32_t frame[64];
+    hound_spec spec = {48000, 64, 24, 0, HOUND_INT};
+    for (size_t i = 0; i < sizeof rests / sizeof *rests; i++) {
+        hound_repair_t found;
+        hound_recorder recorder;
+        hound_effect cut;
+        int64_t length = hound_write_i32(&spec, frame, 64, file, sizeof file);
+        must(length == 68 + 64 * 3, "a frame of 64 channels");
+        memset(file + length, 'A', 128);
+        memcpy(file + length, rests[i].bytes, rests[i].length == 12 ? 12 : strlen(rests[i].bytes));
+        must(repaired(file, (size_t)length + rests[i].length, HOUND_FIND_DAMAGE, &found)
+                     == length + (int64_t)rests[i].length
+                 && found.state == rests[i].state && found.frames == 1,
+             "what less than a frame after the data is");
+        must(hound_recorder_resume(&found, 0, &recorder) == rests[i].code, "a recorder without leave");
+        if (rests[i].code < 0) continue;
+        cut = effect_of(HOUND_SHORTEN, (uint64_t)length, 0, 0);
+        must(found.left_over == rests[i].length && hound_recorder_write(&recorder, 64) == 0 && requests(&recorder, &cut),
+             "a torn frame is cut off");
+    }
+}
+
+/* A repair that was stopped before the pad byte leaves a file of which all is counted; the canonical form has it. */
+static void missing_pad_byte(void) {
+    hound_spec spec = {44100, 1, 8, 1, HOUND_INT};
+    int16_t three[3] = {1, 2, 3};
+    uint8_t whole[48], file[48];
+    hound_repair_t found;
+    must(hound_write_i16(&spec, three, 3, whole, sizeof whole) == 48, "three samples");
+    memcpy(file, whole, 47), file[47] = 9;
+    must(repaired(file, 47, HOUND_REPAIR, &found) == 47 && found.state == HOUND_ALL_COUNTED && found.frames == 3,
+         "a repair leaves a file whose pad byte is missing");
+    must(repaired(file, 47, HOUND_MAKE_CANONICAL, &found) == 48 && found.state == HOUND_ALL_COUNTED
+             && !memcmp(file, whole, sizeof whole),
+         "the pad byte of a canonical file");
+    must(repaired(file, 48, HOUND_MAKE_CANONICAL, &found) == 48 && found.state == HOUND_WHOLE, "the file is whole");
+}
+
+/* A repairer to which fewer bytes are handed in than the file has of a part finds nothing, and writes nothing. */
+static void short_reads(void) {
+    hound_spec spec = {44100, 2, 16, 0, HOUND_INT};
+    int16_t samples[40] = {0};
+    uint8_t file[44 + 80 + 20];
+    must(hound_write_i16(&spec, samples, 40, file, sizeof file) == 124, "twenty frames");
+    memcpy(file + 124, "LIST\14\0\0\0INFOINAM....", 20);
+    put32(file + 4, 7);
+    for (int part = 0, parts = 1; part < parts; part++)
+        for (uint32_t given = 0; given < HOUND_EFFECT_BYTES; given++) {
+            hound_repairer repairer;
+            hound_repair_t found;
+            int32_t code;
+            uint32_t asked = HOUND_EFFECT_BYTES;
+            int number = 0;
+            hound_repairer_begin(sizeof file, HOUND_REPAIR, &repairer);
+            while ((code = hound_repairer_next(&repairer, &found)) == 1) {
+                must(repairer.effect.kind == HOUND_READ, "nothing is written where chunks follow");
+                read_part(file, sizeof file, &repairer.effect);
+                if (number++ == part && given < repairer.effect.length)
+                    asked = repairer.effect.length, repairer.effect.length = given;
+            }
+            must(code == (given < asked && asked < HOUND_EFFECT_BYTES ? HOUND_ENDED : 0), "a part that was read short");
+            if (code == 0) must(found.state == HOUND_HAS_CHUNKS_AFTER_DATA, "chunks follow");
+            if (number > parts) parts = number;
+        }
+}
+
 static void floats(void) {
     hound_spec spec = {48000, 1, 32, 0, HOUND_FLOAT};
     uint32_t patterns[3] = {0x7fc12345, 0x80000000, 1}, back[3];
@@ -1101,6 +1176,9 @@ int main(void) {
     counted_torn_frame();
     no_recorders();
     repairers();
+    short_rests();
+    missing_pad_byte();
+    short_reads();
     floats();
     repairs();
     repairs_to_the_end();
