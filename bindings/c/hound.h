@@ -247,6 +247,13 @@ int64_t hound_header(const hound_spec *spec, uint64_t samples, uint8_t *out, siz
 int64_t hound_sizes(const hound_spec *spec, uint64_t data_start, uint64_t samples, uint8_t *out,
                     size_t capacity) HOUND_NONNULL;
 
+/* Writes a chunk that says nothing (JUNK) to the front of `out`, if it has to come before the header of data that would
+   begin at `data_start`, so that the four bytes of the data length are within one sector of 512 bytes: then a power
+   failure stores all of them or none. Returns its length, which is at most HOUND_FILLER_BYTES, or 0 where none is
+   needed, as always where a file has no chunks before its data but its format. */
+enum { HOUND_FILLER_BYTES = 10 };
+int64_t hound_filler(uint64_t data_start, uint8_t *out, size_t capacity) HOUND_NONNULL;
+
 /* Writes the whole file of these samples to the front of `out`, and returns its length. The rest of
    `out` stays. A value that doesn't fit in the bits of the spec is HOUND_TOO_WIDE. A file of 0 samples can be
    appended to. */

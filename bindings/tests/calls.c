@@ -882,6 +882,22 @@ static void repairers(void) {
     }
 }
 
+/* A chunk that keeps the data length within one sector, where it would lie across two. */
+static void fillers(void) {
+    for (uint64_t start = 20; start < 2000; start++) {
+        static const uint8_t junk[HOUND_FILLER_BYTES] = {'J', 'U', 'N', 'K', 2, 0, 0, 0, 0, 0};
+        uint8_t out[HOUND_FILLER_BYTES + 1], before[sizeof out];
+        int is_across = start % 512 == 1 || start % 512 == 2 || start % 512 == 3;
+        if (start < 512) is_across = 0;
+        memset(out, 9, sizeof out), memset(before, 9, sizeof before);
+        must(hound_filler(start, out, 9) == (is_across ? HOUND_NO_ROOM : 0) && !memcmp(out, before, sizeof out),
+             "a filler without room");
+        must(hound_filler(start, out, sizeof out) == (is_across ? HOUND_FILLER_BYTES : 0) && out[10] == 9
+                 && !memcmp(out, is_across ? junk : before, sizeof junk),
+             "a filler");
+    }
+}
+
 /* Both sizes are right, and less than a frame follows: a recorder cuts off bytes of a torn frame alone without leave. */
 static void short_rests(void) {
     static const struct { const char *bytes; uint32_t length, state; int32_t code; } rests[] = {
@@ -1176,6 +1192,7 @@ int main(void) {
     counted_torn_frame();
     no_recorders();
     repairers();
+    fillers();
     short_rests();
     missing_pad_byte();
     short_reads();

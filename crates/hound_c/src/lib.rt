@@ -13,7 +13,7 @@ ghost use Rattle.hound_sample.specs.{double_of_int, float_of_int, int_container,
 ghost use Rattle.hound_spec.specs.declared.spec.SampleFormat.TheVariants.{Float, Int};
 ghost use Rattle.hound_walk.specs.declared.cause.Cause.{Cause};
 ghost use Rattle.hound_writer.specs.{Advances, AsksForBlock, AsksForCheckpoint, BeginsRecorder, LeavesRoom, Resumes};
-ghost use Rattle.hound_slices.specs.{AppendsInPlace, BeginsForC, BeginsRepairer, CountsWhole, Decodes, Encodes, EncodesFloats, FindsInFile, GivesBeginning, GivesHeader, GivesSizes, GuessesData, IsDamageError, IsExplicit, IsKind, MakesContainer, NarrowsFloats, ReadsInto, Records, RepairsFile, Returns, Sizes, StepsRepairer, TakesNumbers, TakesPart, WidensFloats, WritesFile, effect_of, error_code, found_file, mends, overwrites, recorder_of, report_of, spec_from_c};
+ghost use Rattle.hound_slices.specs.{AppendsInPlace, BeginsForC, BeginsRepairer, CountsWhole, Decodes, Encodes, EncodesFloats, FindsInFile, GivesBeginning, GivesFiller, GivesHeader, GivesSizes, GuessesData, IsDamageError, IsExplicit, IsKind, MakesContainer, NarrowsFloats, ReadsInto, Records, RepairsFile, Returns, Sizes, StepsRepairer, TakesNumbers, TakesPart, WidensFloats, WritesFile, effect_of, error_code, found_file, mends, overwrites, recorder_of, report_of, spec_from_c};
 ghost use Rattle.hound_slices.specs.declared.error.CallError.{CallError as AnyError};
 ghost use Rattle.hound_slices.specs.declared.error.CallError.TheVariants.{Head};
 
@@ -25,7 +25,8 @@ use hound_slices::{
     decode_block, encode_block, encode_floats, encode_with_noise, file_kind, file_size,
     find_file_damage, found_file, guess_data, info_for_c, mends, narrow_floats, overwrites,
     read_block, recorder_for_c, recorder_of, repair_file, report_of, spec_from_c, step_repairer,
-    step_walk, value_of, whole_frames, widen_floats, write_file, write_header, write_sizes,
+    step_walk, value_of, whole_frames, widen_floats, write_file, write_filler, write_header,
+    write_sizes,
 };
 use hound_spec::SampleFormat;
 use hound_walk::find_samples;
@@ -118,6 +119,14 @@ pub extern "C" fn hound_sizes(
     ensures { Returns result (GivesSizes (spec_from_c spec.now) data_start samples out.old out.new) }
 {
     code_of(write_sizes(*spec, data_start, samples, out))
+}
+
+/// Writes a chunk that says nothing, where the data length would otherwise lie across two sectors: its length, or 0.
+#[unsafe(no_mangle)]
+pub extern "C" fn hound_filler(data_start: u64, out: &mut [u8]) -> i64
+    ensures { Returns result (GivesFiller data_start out.old out.new) }
+{
+    code_of(write_filler(data_start, out))
 }
 
 /// Writes the whole file of these samples.

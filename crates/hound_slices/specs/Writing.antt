@@ -1,5 +1,5 @@
 -- What writing and appending do.
-use Rattle.std.specs.Prelude.{◌≡◌, ◌⊎◌, ℕ, ◌+◌, ◌-◌, ◌*◌, ◌/◌, ◌%◌, ◌<◌, ◌≤◌, List, length, take, drop, ◌++◌, Result, Ok, Err, ◌==◌, nat_lt, if◌then◌else◌}
+use Rattle.std.specs.Prelude.{◌≡◌, ◌⊎◌, ℕ, ◌+◌, ◌-◌, ◌*◌, ◌/◌, ◌%◌, ◌<◌, ◌≤◌, List, [], ◌∷◌, codes, length, take, drop, ◌++◌, Result, Ok, Err, ◌==◌, nat_lt, if◌then◌else◌}
 use Rattle.std.specs.List.{concat}
 use Rattle.hound_number.specs.{bytes_of}
 use Rattle.hound_spec.specs.{greatest_u32, canonical, data_start, header, padded, padding, riff_size, IsPair, IsWritable}
@@ -106,6 +106,23 @@ GivesSizes s start count old new (Ok n) = HasPlace s start × IsFile s start cou
 GivesSizes s start count old new (Err NotWritable) = (new ≡ old) × (HasPlace s start → ⊥)
 GivesSizes s start count old new (Err NoRoom) = (new ≡ old) × (length old < 8)
 GivesSizes s start count old new (Err error) = (new ≡ old) × IsSizeError s start count error
+
+-- the four bytes of the data length, which are before the data, are within one sector of 512 bytes
+abbrev pub IsLengthInSector : ℕ → Type 0
+IsLengthInSector start = (start - 4) / 512 ≡ (start - 1) / 512
+
+-- a chunk of two bytes that say nothing (RIFF, "JUNK (Filler) Chunk")
+abbrev pub filler : List ℕ
+filler = codes "JUNK" ++ (bytes_of 4 2 ++ (0 ∷ 0 ∷ []))
+
+-- What the call for a filler does: where the data length of data that would begin at this place is not within one
+-- sector, a chunk before its header moves it there.
+abbrev pub GivesFiller : ℕ → List ℕ → List ℕ → Result ℕ CallError → Type 0
+GivesFiller start old new (Ok n) = ((n ≡ 0) × (new ≡ old) × IsLengthInSector start)
+    ⊎ ((n ≡ 10) × (IsLengthInSector start → ⊥) × IsLengthInSector (start + n)
+    × (take n new ≡ filler) × (drop n new ≡ drop n old))
+GivesFiller start old new (Err error) = (error ≡ NoRoom) × (new ≡ old) × (IsLengthInSector start → ⊥)
+    × (length old < 10)
 
 -- What appending does. The header counts samples that are all among the first bytes; the new containers follow them,
 -- then their pad byte, and the two sizes are those of all. So the first n bytes are read as the samples of before and

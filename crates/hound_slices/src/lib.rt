@@ -26,4 +26,6 @@ pub use searching::{file_kind, guess_data, whole_frames};
 pub use spec::{HoundInfo, HoundRepair, HoundSpec, HoundWalk, info_for_c, spec_from_c};
 pub use value::{container_of, value_of};
 pub use walking::step_walk;
-pub use writing::{append_block, encode_block, file_size, write_file, write_header, write_sizes};
+pub use writing::{
+    append_block, encode_block, file_size, write_file, write_filler, write_header, write_sizes,
+};

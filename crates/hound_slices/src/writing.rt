@@ -3,7 +3,7 @@ ghost use Rattle.std.specs.Prelude.{◌≡◌, ◌+◌, ◌*◌, ◌%◌, ◌^�
 ghost use Rattle.hound_spec.specs.{IsPair, IsWritable, greatest_u32, data_start, header, padded, padding, riff_size};
 ghost use Rattle.hound_sample.specs.{joined_containers};
 ghost use Rattle.hound_writer.specs.{containers_in};
-ghost use Rattle.hound_slices.specs.Writing.{Encodes, GivesHeader, GivesSizes, IsSizeError, IsUnencoded, Sizes, WritesFile, spec_from_c, AppendsInPlace};
+ghost use Rattle.hound_slices.specs.Writing.{Encodes, GivesFiller, GivesHeader, GivesSizes, IsSizeError, IsUnencoded, Sizes, WritesFile, spec_from_c, AppendsInPlace};
 
 use crate::error::CallError;
 use crate::spec::{HoundSpec, spec_from_c};
@@ -12,6 +12,9 @@ use hound_repair::set_sizes;
 use hound_sample::{Sample, SampleError, check_containers, have_containers, store_containers};
 use hound_spec::{SampleFormat, WavSpecEx, header_length, header_of, is_pair, riff_size_fits};
 use hound_walk::find_samples;
+
+// A chunk of two bytes that say nothing.
+const FILLER: [u8; 10] = *b"JUNK\x02\0\0\0\0\0";
 
 // Checks that samples of a format have containers of a spec, which is written.
 fn check_samples<S: Sample + Copy>(
@@ -164,6 +167,23 @@ pub fn write_sizes(
     out[..4].copy_from_slice(&le_u32((size - 8) as u32));
     out[4..8].copy_from_slice(&le_u32(data_length));
     Ok(size)
+}
+
+/// Writes a chunk that says nothing to the front of `out`, if it has to come before the header of data that would begin
+/// at this place, so that the four bytes of the data length are within one sector of 512 bytes: then a loss of power
+/// stores all of them or none. Returns its length, or 0 where none is needed.
+pub fn write_filler(data_start: u64, out: &mut [u8]) -> Result<usize, CallError>
+    ensures gives { GivesFiller data_start out.old out.new result }
+    ensures small { IfOk result (λ n. n ≤ 10) }
+{
+    if data_start.saturating_sub(4) / 512 == data_start.saturating_sub(1) / 512 {
+        return Ok(0);
+    }
+    if out.len() < FILLER.len() {
+        return Err(CallError::NoRoom);
+    }
+    out[..FILLER.len()].copy_from_slice(&FILLER);
+    Ok(FILLER.len())
 }
 
 /// Writes the file of these samples to the front of `out`, and returns its length.
