@@ -451,14 +451,22 @@ async function firefox() {
 
 const pause = (milliseconds) => new Promise((resolve) => setTimeout(resolve, milliseconds));
 
-/** The value of an expression of the page, once it is so. */
-async function once(browser, expression, what) {
-  for (let i = 0; i < 600; i++) {
-    const value = await browser.evaluate(expression);
+/** Calls something until it gives a value: for half a minute, and longer where more programs run than processors. */
+async function until(attempt) {
+  const load = () => Math.max(1, 2 * os.loadavg()[0] / os.cpus().length);
+  for (let waited = 0; waited < 30000 * load(); waited += 50) {
+    const value = await attempt();
     if (value) return value;
     await pause(50);
   }
-  throw new Error(`not so after half a minute: ${what}`);
+  return null;
+}
+
+/** The value of an expression of the page, once it is so. */
+async function once(browser, expression, what) {
+  const value = await until(() => browser.evaluate(expression));
+  if (!value) throw new Error(`not so in all the time that was given: ${what}`);
+  return value;
 }
 
 /** Does something that lets the page look at a file, and waits until that is drawn. */
@@ -479,7 +487,7 @@ async function saved(browser, name, size, how = () => browser.click("#save")) {
   const file = path.join(work, "saved", name);
   fs.rmSync(file, {force: true});
   await how();
-  for (let i = 0; i < 600 && !(fs.existsSync(file) && fs.statSync(file).size === size); i++) await pause(50);
+  await until(() => fs.existsSync(file) && fs.statSync(file).size === size);
   await pause(300);
   return file;
 }

@@ -1,6 +1,6 @@
 /* The functions of hound.h in C99 (and C++11), for computers that bindings/lib has no library for.
    scripts/portable/convert.py makes this file from the proved module hound_c.wasm, whose sha256 is
-   44db19559c3b359a48f691d375209dc0d2ba3b29c4a588d10ebd2ef4ce09ce15: don't edit it.
+   d095d2ae7eae8adfafe483f5c9e6bf7367edf245675d1b277c6d9cad1e248c72: don't edit it.
      cc -O3 -c bindings/c/hound_c.c
 
    Numbers are the module's: an i32 is a uint32_t, an i64 or an address a uint64_t, and an address is
@@ -138,6 +138,8 @@ int64_t hound_size(const hound_spec *spec, uint64_t samples) HOUND_NONNULL;
 enum { HOUND_HEADER_BYTES = 68 };
 int64_t hound_header(const hound_spec *spec, uint64_t samples, uint8_t *out, size_t capacity) HOUND_NONNULL;
 int64_t hound_sizes(const hound_spec *spec, uint64_t data_start, uint64_t samples, uint8_t *out, size_t capacity) HOUND_NONNULL;
+enum { HOUND_FILLER_BYTES = 10 };
+int64_t hound_filler(uint64_t data_start, uint8_t *out, size_t capacity) HOUND_NONNULL;
 int64_t hound_write_i16(const hound_spec *spec, const int16_t *samples, size_t count, uint8_t *out, size_t capacity) HOUND_NONNULL;
 int64_t hound_write_i32(const hound_spec *spec, const int32_t *samples, size_t count, uint8_t *out, size_t capacity) HOUND_NONNULL;
 int64_t hound_write_f32(const hound_spec *spec, const float *samples, size_t count, uint8_t *out, size_t capacity) HOUND_NONNULL;
@@ -394,39 +396,40 @@ static uint64_t f60_hound_encode_i32(uint64_t sp, uint64_t l0, uint64_t l1, uint
 static uint64_t f62_hound_encode_i8(uint64_t sp, uint64_t l0, uint64_t l1, uint64_t l2, uint64_t l3, uint64_t l4);
 static uint64_t f64_hound_f32_to_f64(uint64_t l0, uint64_t l1, uint64_t l2, uint64_t l3);
 static uint64_t f66_hound_f64_to_f32(uint64_t l0, uint64_t l1, uint64_t l2, uint64_t l3, uint64_t l4);
-static uint32_t f68_hound_find_damage(uint64_t sp, uint64_t l0, uint64_t l1, uint64_t l2);
-static uint64_t f70_hound_from_f32(uint64_t sp, uint64_t l0, uint64_t l1, uint64_t l2, uint64_t l3, uint64_t l4, uint64_t l5);
-static uint64_t f72_hound_from_f64(uint64_t sp, uint64_t l0, uint64_t l1, uint64_t l2, uint64_t l3, uint64_t l4, uint64_t l5);
-static uint64_t f74_hound_guess_data(uint64_t l0, uint64_t l1);
-static uint64_t f76_hound_header(uint64_t sp, uint64_t l0, uint64_t l1, uint64_t l2, uint64_t l3);
-static uint32_t f78_hound_info(uint64_t sp, uint64_t l0, uint64_t l1, uint64_t l2);
-static uint32_t f80_hound_kind(uint64_t l0, uint64_t l1);
-static uint64_t f82_hound_read_f32(uint64_t sp, uint64_t l0, uint64_t l1, uint64_t l2, uint64_t l3, uint64_t l4);
-static uint64_t f84_hound_read_i16(uint64_t sp, uint64_t l0, uint64_t l1, uint64_t l2, uint64_t l3, uint64_t l4);
-static uint64_t f86_hound_read_i32(uint64_t sp, uint64_t l0, uint64_t l1, uint64_t l2, uint64_t l3, uint64_t l4);
-static uint32_t f88_hound_recorder_begin(uint64_t l0, uint64_t l1);
-static void f90_hound_recorder_checkpoint(uint64_t sp, uint64_t l0);
-static uint64_t f92_hound_recorder_frames_left(uint64_t l0);
-static uint32_t f94_hound_recorder_next(uint64_t sp, uint64_t l0);
-static uint32_t f96_hound_recorder_resume(uint64_t l0, uint32_t l1, uint64_t l2);
-static uint32_t f98_hound_recorder_write(uint64_t sp, uint64_t l0, uint64_t l1);
-static uint64_t f100_hound_repair(uint64_t sp, uint64_t l0, uint64_t l1, uint64_t l2, uint64_t l3);
-static uint64_t f102_hound_repair_to_end(uint64_t sp, uint64_t l0, uint64_t l1, uint64_t l2, uint64_t l3);
-static void f104_hound_repairer_begin(uint64_t l0, uint32_t l1, uint64_t l2);
-static uint32_t f106_hound_repairer_next(uint64_t sp, uint64_t l0, uint64_t l1);
-static uint64_t f108_hound_size(uint64_t l0, uint64_t l1);
-static uint64_t f110_hound_sizes(uint64_t l0, uint64_t l1, uint64_t l2, uint64_t l3, uint64_t l4);
-static uint64_t f112_hound_to_f32(uint64_t sp, uint64_t l0, uint64_t l1, uint64_t l2, uint64_t l3, uint64_t l4);
-static uint64_t f114_hound_to_f64(uint64_t l0, uint64_t l1, uint64_t l2, uint64_t l3, uint64_t l4);
-static uint32_t f116_hound_value_16(uint32_t l0);
-static uint32_t f118_hound_value_24(uint32_t l0);
-static uint32_t f122_hound_value_8(uint32_t l0);
-static uint32_t f126_hound_walk_next(uint64_t sp, uint64_t l0, uint64_t l1);
-static uint32_t f128_hound_walk_to_end(uint64_t sp, uint64_t l0, uint64_t l1);
-static uint64_t f130_hound_whole_frames(uint64_t l0, uint64_t l1);
-static uint64_t f132_hound_write_f32(uint64_t sp, uint64_t l0, uint64_t l1, uint64_t l2, uint64_t l3, uint64_t l4);
-static uint64_t f134_hound_write_i16(uint64_t sp, uint64_t l0, uint64_t l1, uint64_t l2, uint64_t l3, uint64_t l4);
-static uint64_t f136_hound_write_i32(uint64_t sp, uint64_t l0, uint64_t l1, uint64_t l2, uint64_t l3, uint64_t l4);
+static uint64_t f68_hound_filler(uint64_t l0, uint64_t l1, uint64_t l2);
+static uint32_t f70_hound_find_damage(uint64_t sp, uint64_t l0, uint64_t l1, uint64_t l2);
+static uint64_t f72_hound_from_f32(uint64_t sp, uint64_t l0, uint64_t l1, uint64_t l2, uint64_t l3, uint64_t l4, uint64_t l5);
+static uint64_t f74_hound_from_f64(uint64_t sp, uint64_t l0, uint64_t l1, uint64_t l2, uint64_t l3, uint64_t l4, uint64_t l5);
+static uint64_t f76_hound_guess_data(uint64_t l0, uint64_t l1);
+static uint64_t f78_hound_header(uint64_t sp, uint64_t l0, uint64_t l1, uint64_t l2, uint64_t l3);
+static uint32_t f80_hound_info(uint64_t sp, uint64_t l0, uint64_t l1, uint64_t l2);
+static uint32_t f82_hound_kind(uint64_t l0, uint64_t l1);
+static uint64_t f84_hound_read_f32(uint64_t sp, uint64_t l0, uint64_t l1, uint64_t l2, uint64_t l3, uint64_t l4);
+static uint64_t f86_hound_read_i16(uint64_t sp, uint64_t l0, uint64_t l1, uint64_t l2, uint64_t l3, uint64_t l4);
+static uint64_t f88_hound_read_i32(uint64_t sp, uint64_t l0, uint64_t l1, uint64_t l2, uint64_t l3, uint64_t l4);
+static uint32_t f90_hound_recorder_begin(uint64_t l0, uint64_t l1);
+static void f92_hound_recorder_checkpoint(uint64_t sp, uint64_t l0);
+static uint64_t f94_hound_recorder_frames_left(uint64_t l0);
+static uint32_t f96_hound_recorder_next(uint64_t sp, uint64_t l0);
+static uint32_t f98_hound_recorder_resume(uint64_t l0, uint32_t l1, uint64_t l2);
+static uint32_t f100_hound_recorder_write(uint64_t sp, uint64_t l0, uint64_t l1);
+static uint64_t f102_hound_repair(uint64_t sp, uint64_t l0, uint64_t l1, uint64_t l2, uint64_t l3);
+static uint64_t f104_hound_repair_to_end(uint64_t sp, uint64_t l0, uint64_t l1, uint64_t l2, uint64_t l3);
+static void f106_hound_repairer_begin(uint64_t l0, uint32_t l1, uint64_t l2);
+static uint32_t f108_hound_repairer_next(uint64_t sp, uint64_t l0, uint64_t l1);
+static uint64_t f110_hound_size(uint64_t l0, uint64_t l1);
+static uint64_t f112_hound_sizes(uint64_t l0, uint64_t l1, uint64_t l2, uint64_t l3, uint64_t l4);
+static uint64_t f114_hound_to_f32(uint64_t sp, uint64_t l0, uint64_t l1, uint64_t l2, uint64_t l3, uint64_t l4);
+static uint64_t f116_hound_to_f64(uint64_t l0, uint64_t l1, uint64_t l2, uint64_t l3, uint64_t l4);
+static uint32_t f118_hound_value_16(uint32_t l0);
+static uint32_t f120_hound_value_24(uint32_t l0);
+static uint32_t f124_hound_value_8(uint32_t l0);
+static uint32_t f128_hound_walk_next(uint64_t sp, uint64_t l0, uint64_t l1);
+static uint32_t f130_hound_walk_to_end(uint64_t sp, uint64_t l0, uint64_t l1);
+static uint64_t f132_hound_whole_frames(uint64_t l0, uint64_t l1);
+static uint64_t f134_hound_write_f32(uint64_t sp, uint64_t l0, uint64_t l1, uint64_t l2, uint64_t l3, uint64_t l4);
+static uint64_t f136_hound_write_i16(uint64_t sp, uint64_t l0, uint64_t l1, uint64_t l2, uint64_t l3, uint64_t l4);
+static uint64_t f138_hound_write_i32(uint64_t sp, uint64_t l0, uint64_t l1, uint64_t l2, uint64_t l3, uint64_t l4);
 
 /* hound_walk::parts::find_samples */
 static void f3_find_samples(uint64_t sp, uint64_t l0, uint64_t l1, uint64_t l2) {
@@ -7098,8 +7101,26 @@ L2:;
     TRAP();
 }
 
+/* rattle::export hound_filler */
+static uint64_t f68_hound_filler(uint64_t l0, uint64_t l1, uint64_t l2) {
+    uint64_t l3 = 0;
+    l3 = l0 - 4ull;
+    if (((l3 > l0 ? 0ull : l3) ^ (l0 - ((uint64_t)(uint32_t)(l0 != 0ull)))) >= 512ull) goto L2;
+    return 0ull;
+L2:;
+    l0 = 0xfffffffffffffff7ull;
+    if (l2 < 10ull) goto L3;
+    l0 = l1 + (l1 == 0 ? 4096ull : 0ull);
+    store16(l0 + 8, 0u);
+    store64(l0, 0x24b4e554aull);
+    l0 = 10ull;
+L3:;
+    return l0;
+    TRAP();
+}
+
 /* rattle::export hound_find_damage */
-static uint32_t f68_hound_find_damage(uint64_t sp, uint64_t l0, uint64_t l1, uint64_t l2) {
+static uint32_t f70_hound_find_damage(uint64_t sp, uint64_t l0, uint64_t l1, uint64_t l2) {
     uint32_t l4 = 0, l5 = 0, l6 = 0, l7 = 0, l8 = 0, l9 = 0, l10 = 0, l11 = 0, l12 = 0, l13 = 0;
     uint64_t l3 = 0;
     l3 = sp - 80ull;
@@ -7173,7 +7194,7 @@ L1:;
 }
 
 /* rattle::export hound_from_f32 */
-static uint64_t f70_hound_from_f32(uint64_t sp, uint64_t l0, uint64_t l1, uint64_t l2, uint64_t l3, uint64_t l4, uint64_t l5) {
+static uint64_t f72_hound_from_f32(uint64_t sp, uint64_t l0, uint64_t l1, uint64_t l2, uint64_t l3, uint64_t l4, uint64_t l5) {
     uint32_t l8 = 0, l9 = 0, l10 = 0, l11 = 0, t1, t2, t3, t4, t5, t6, t7, t8, t9, t10;
     uint64_t l6 = 0, l7 = 0, l12 = 0;
     float l17 = 0, l18 = 0;
@@ -7410,7 +7431,7 @@ L3:;
 }
 
 /* rattle::export hound_from_f64 */
-static uint64_t f72_hound_from_f64(uint64_t sp, uint64_t l0, uint64_t l1, uint64_t l2, uint64_t l3, uint64_t l4, uint64_t l5) {
+static uint64_t f74_hound_from_f64(uint64_t sp, uint64_t l0, uint64_t l1, uint64_t l2, uint64_t l3, uint64_t l4, uint64_t l5) {
     uint32_t l8 = 0, l9 = 0, l10 = 0, l11 = 0, t1, t2, t3, t4, t5;
     uint64_t l6 = 0, l7 = 0, l12 = 0;
     double l13 = 0, l14 = 0, l15 = 0, l16 = 0, l17 = 0;
@@ -7596,7 +7617,7 @@ L3:;
 }
 
 /* rattle::export hound_guess_data */
-static uint64_t f74_hound_guess_data(uint64_t l0, uint64_t l1) {
+static uint64_t f76_hound_guess_data(uint64_t l0, uint64_t l1) {
     uint64_t l2 = 0, l3 = 0;
     l2 = 0xfffffffffffffff4ull;
     l3 = l1 - 7ull;
@@ -7617,7 +7638,7 @@ L1:;
 }
 
 /* rattle::export hound_header */
-static uint64_t f76_hound_header(uint64_t sp, uint64_t l0, uint64_t l1, uint64_t l2, uint64_t l3) {
+static uint64_t f78_hound_header(uint64_t sp, uint64_t l0, uint64_t l1, uint64_t l2, uint64_t l3) {
     uint32_t l6 = 0, l7 = 0, l8 = 0, l9 = 0, l10 = 0, l11 = 0;
     uint64_t l4 = 0, l5 = 0, l12 = 0;
     l4 = sp - 96ull;
@@ -7688,7 +7709,7 @@ L6:;
 }
 
 /* rattle::export hound_info */
-static uint32_t f78_hound_info(uint64_t sp, uint64_t l0, uint64_t l1, uint64_t l2) {
+static uint32_t f80_hound_info(uint64_t sp, uint64_t l0, uint64_t l1, uint64_t l2) {
     uint32_t l4 = 0;
     uint64_t l3 = 0;
     l3 = sp - 48ull;
@@ -7728,7 +7749,7 @@ L1:;
 }
 
 /* rattle::export hound_kind */
-static uint32_t f80_hound_kind(uint64_t l0, uint64_t l1) {
+static uint32_t f82_hound_kind(uint64_t l0, uint64_t l1) {
     uint32_t l2 = 0, l3 = 0, l4 = 0, l5 = 0, l6 = 0, l7 = 0;
     uint64_t l8 = 0, l9 = 0, l10 = 0;
     l2 = 0x10000u;
@@ -7818,7 +7839,7 @@ L2:;
 }
 
 /* rattle::export hound_read_f32 */
-static uint64_t f82_hound_read_f32(uint64_t sp, uint64_t l0, uint64_t l1, uint64_t l2, uint64_t l3, uint64_t l4) {
+static uint64_t f84_hound_read_f32(uint64_t sp, uint64_t l0, uint64_t l1, uint64_t l2, uint64_t l3, uint64_t l4) {
     uint32_t l7 = 0, l8 = 0;
     uint64_t l5 = 0, l6 = 0, l9 = 0, l10 = 0, t1;
     l5 = sp - 48ull;
@@ -7876,7 +7897,7 @@ L1:;
 }
 
 /* rattle::export hound_read_i16 */
-static uint64_t f84_hound_read_i16(uint64_t sp, uint64_t l0, uint64_t l1, uint64_t l2, uint64_t l3, uint64_t l4) {
+static uint64_t f86_hound_read_i16(uint64_t sp, uint64_t l0, uint64_t l1, uint64_t l2, uint64_t l3, uint64_t l4) {
     uint32_t l7 = 0, l8 = 0, l9 = 0;
     uint64_t l5 = 0, l6 = 0, l10 = 0, l11 = 0, t1;
     l5 = sp - 48ull;
@@ -7938,7 +7959,7 @@ L1:;
 }
 
 /* rattle::export hound_read_i32 */
-static uint64_t f86_hound_read_i32(uint64_t sp, uint64_t l0, uint64_t l1, uint64_t l2, uint64_t l3, uint64_t l4) {
+static uint64_t f88_hound_read_i32(uint64_t sp, uint64_t l0, uint64_t l1, uint64_t l2, uint64_t l3, uint64_t l4) {
     uint32_t l7 = 0, l8 = 0, l9 = 0, l12 = 0;
     uint64_t l5 = 0, l6 = 0, l10 = 0, l11 = 0, t1;
     l5 = sp - 48ull;
@@ -8004,7 +8025,7 @@ L1:;
 }
 
 /* rattle::export hound_recorder_begin */
-static uint32_t f88_hound_recorder_begin(uint64_t l0, uint64_t l1) {
+static uint32_t f90_hound_recorder_begin(uint64_t l0, uint64_t l1) {
     uint32_t l2 = 0, l3 = 0, l4 = 0, l5 = 0, l6 = 0, l7 = 0;
     l2 = load16(l0 + 10);
     l3 = load16(l0 + 6);
@@ -8055,7 +8076,7 @@ L6:;
 }
 
 /* rattle::export hound_recorder_checkpoint */
-static void f90_hound_recorder_checkpoint(uint64_t sp, uint64_t l0) {
+static void f92_hound_recorder_checkpoint(uint64_t sp, uint64_t l0) {
     uint32_t l2 = 0, l3 = 0, l4 = 0, l5 = 0, l6 = 0, l7 = 0, l9 = 0, l10 = 0;
     uint64_t l1 = 0, l8 = 0;
     l1 = sp - 48ull;
@@ -8141,7 +8162,7 @@ L1:;
 }
 
 /* rattle::export hound_recorder_frames_left */
-static uint64_t f92_hound_recorder_frames_left(uint64_t l0) {
+static uint64_t f94_hound_recorder_frames_left(uint64_t l0) {
     uint64_t l1 = 0, l2 = 0, l3 = 0;
     l1 = 0ull;
     l2 = load64(l0 + 56ull);
@@ -8157,7 +8178,7 @@ L2:;
 }
 
 /* rattle::export hound_recorder_next */
-static uint32_t f94_hound_recorder_next(uint64_t sp, uint64_t l0) {
+static uint32_t f96_hound_recorder_next(uint64_t sp, uint64_t l0) {
     uint32_t l2 = 0, l3 = 0, l4 = 0, l5 = 0, l6 = 0, l7 = 0, l9 = 0, l10 = 0, l12 = 0, l13 = 0, l15 = 0, l16 = 0, l17 = 0, l18 = 0, l19 = 0, l20 = 0;
     uint64_t l1 = 0, l8 = 0, l11 = 0, l14 = 0, l21 = 0, l22 = 0, l23 = 0;
     l1 = sp - 176ull;
@@ -8495,7 +8516,7 @@ L38:;
 }
 
 /* rattle::export hound_recorder_resume */
-static uint32_t f96_hound_recorder_resume(uint64_t l0, uint32_t l1, uint64_t l2) {
+static uint32_t f98_hound_recorder_resume(uint64_t l0, uint32_t l1, uint64_t l2) {
     uint32_t l3 = 0, l4 = 0, l5 = 0, l9 = 0, l11 = 0, l13 = 0, l14 = 0;
     uint64_t l6 = 0, l7 = 0, l8 = 0, l10 = 0, l12 = 0;
     l3 = load16(l0 + 6);
@@ -8597,7 +8618,7 @@ L1:;
 }
 
 /* rattle::export hound_recorder_write */
-static uint32_t f98_hound_recorder_write(uint64_t sp, uint64_t l0, uint64_t l1) {
+static uint32_t f100_hound_recorder_write(uint64_t sp, uint64_t l0, uint64_t l1) {
     uint32_t l3 = 0, l4 = 0, l5 = 0, l6 = 0, l7 = 0, l8 = 0, l10 = 0, l11 = 0, l13 = 0, l14 = 0;
     uint64_t l2 = 0, l9 = 0, l12 = 0;
     l2 = sp - 48ull;
@@ -8729,7 +8750,7 @@ L15:;
 }
 
 /* rattle::export hound_repair */
-static uint64_t f100_hound_repair(uint64_t sp, uint64_t l0, uint64_t l1, uint64_t l2, uint64_t l3) {
+static uint64_t f102_hound_repair(uint64_t sp, uint64_t l0, uint64_t l1, uint64_t l2, uint64_t l3) {
     uint32_t l5 = 0;
     uint64_t l4 = 0;
     l4 = sp - 16ull;
@@ -8797,7 +8818,7 @@ L1:;
 }
 
 /* rattle::export hound_repair_to_end */
-static uint64_t f102_hound_repair_to_end(uint64_t sp, uint64_t l0, uint64_t l1, uint64_t l2, uint64_t l3) {
+static uint64_t f104_hound_repair_to_end(uint64_t sp, uint64_t l0, uint64_t l1, uint64_t l2, uint64_t l3) {
     uint32_t l5 = 0;
     uint64_t l4 = 0;
     l4 = sp - 16ull;
@@ -8865,7 +8886,7 @@ L1:;
 }
 
 /* rattle::export hound_repairer_begin */
-static void f104_hound_repairer_begin(uint64_t l0, uint32_t l1, uint64_t l2) {
+static void f106_hound_repairer_begin(uint64_t l0, uint32_t l1, uint64_t l2) {
     store64(l2 + 48, 0ull);
     store64(l2 + 40, 0ull);
     store64(l2 + 32, 0ull);
@@ -8885,7 +8906,7 @@ static void f104_hound_repairer_begin(uint64_t l0, uint32_t l1, uint64_t l2) {
 }
 
 /* rattle::export hound_repairer_next */
-static uint32_t f106_hound_repairer_next(uint64_t sp, uint64_t l0, uint64_t l1) {
+static uint32_t f108_hound_repairer_next(uint64_t sp, uint64_t l0, uint64_t l1) {
     uint32_t l5 = 0, l6 = 0, l7 = 0, l8 = 0, l9 = 0, l10 = 0, l11 = 0, l12 = 0, l13 = 0, l14 = 0, l16 = 0, l17 = 0, l18 = 0, l19 = 0, l20 = 0, l21 = 0, l22 = 0, l24 = 0, l25 = 0, l26 = 0, l27 = 0, l28 = 0, l29 = 0, l31 = 0, l32 = 0, l33 = 0, l34 = 0, l35 = 0, l36 = 0, l37 = 0, l38 = 0, l39 = 0, l40 = 0, l41 = 0, l42 = 0, l43 = 0, l44 = 0;
     uint64_t l2 = 0, l3 = 0, l4 = 0, l15 = 0, l23 = 0, l30 = 0, l45 = 0, l46 = 0, l47 = 0, l48 = 0, l49 = 0, l50 = 0, l51 = 0;
     l2 = sp - 1216ull;
@@ -9931,7 +9952,7 @@ L1:;
 }
 
 /* rattle::export hound_size */
-static uint64_t f108_hound_size(uint64_t l0, uint64_t l1) {
+static uint64_t f110_hound_size(uint64_t l0, uint64_t l1) {
     uint32_t l2 = 0, l3 = 0, l4 = 0, l5 = 0, l6 = 0;
     uint64_t l7 = 0;
     l2 = load16(l0 + 10);
@@ -9982,7 +10003,7 @@ L6:;
 }
 
 /* rattle::export hound_sizes */
-static uint64_t f110_hound_sizes(uint64_t l0, uint64_t l1, uint64_t l2, uint64_t l3, uint64_t l4) {
+static uint64_t f112_hound_sizes(uint64_t l0, uint64_t l1, uint64_t l2, uint64_t l3, uint64_t l4) {
     uint32_t l5 = 0, l6 = 0, l7 = 0, l8 = 0, l9 = 0;
     l5 = load16(l0 + 10);
     l6 = load16(l0 + 6);
@@ -10033,7 +10054,7 @@ L3:;
 }
 
 /* rattle::export hound_to_f32 */
-static uint64_t f112_hound_to_f32(uint64_t sp, uint64_t l0, uint64_t l1, uint64_t l2, uint64_t l3, uint64_t l4) {
+static uint64_t f114_hound_to_f32(uint64_t sp, uint64_t l0, uint64_t l1, uint64_t l2, uint64_t l3, uint64_t l4) {
     uint32_t l6 = 0, l7 = 0, l8 = 0, l9 = 0, l20 = 0, t2, t3;
     uint64_t l5 = 0, l10 = 0, l12 = 0, l13 = 0;
     float l11 = 0, l14 = 0, l15 = 0, l16 = 0, l17 = 0, l18 = 0, l19 = 0, t1;
@@ -10242,7 +10263,7 @@ L1:;
 }
 
 /* rattle::export hound_to_f64 */
-static uint64_t f114_hound_to_f64(uint64_t l0, uint64_t l1, uint64_t l2, uint64_t l3, uint64_t l4) {
+static uint64_t f116_hound_to_f64(uint64_t l0, uint64_t l1, uint64_t l2, uint64_t l3, uint64_t l4) {
     uint32_t l5 = 0, l6 = 0, l7 = 0, l8 = 0;
     uint64_t l9 = 0, l11 = 0, l12 = 0;
     double l10 = 0;
@@ -10419,22 +10440,22 @@ L1:;
 }
 
 /* rattle::export hound_value_16 */
-static uint32_t f116_hound_value_16(uint32_t l0) {
+static uint32_t f118_hound_value_16(uint32_t l0) {
     return extend16(l0);
 }
 
 /* rattle::export hound_value_24 */
-static uint32_t f118_hound_value_24(uint32_t l0) {
+static uint32_t f120_hound_value_24(uint32_t l0) {
     return ((shr_s32((l0 << 8), 8)) & 0xffff0000u) | (l0 & 65535u);
 }
 
 /* rattle::export hound_value_8 */
-static uint32_t f122_hound_value_8(uint32_t l0) {
+static uint32_t f124_hound_value_8(uint32_t l0) {
     return extend8(l0) ^ 0xffffff80u;
 }
 
 /* rattle::export hound_walk_next */
-static uint32_t f126_hound_walk_next(uint64_t sp, uint64_t l0, uint64_t l1) {
+static uint32_t f128_hound_walk_next(uint64_t sp, uint64_t l0, uint64_t l1) {
     uint32_t l4 = 0, l5 = 0, l6 = 0, l7 = 0, l8 = 0, l9 = 0, l10 = 0, l11 = 0, l12 = 0, l13 = 0, l14 = 0, l15 = 0, l16 = 0, l17 = 0, l18 = 0, t1, t2, t3, t4;
     uint64_t l2 = 0, l3 = 0, l19 = 0;
     l2 = sp - 128ull;
@@ -10803,7 +10824,7 @@ L1:;
 }
 
 /* rattle::export hound_walk_to_end */
-static uint32_t f128_hound_walk_to_end(uint64_t sp, uint64_t l0, uint64_t l1) {
+static uint32_t f130_hound_walk_to_end(uint64_t sp, uint64_t l0, uint64_t l1) {
     uint32_t l4 = 0, l5 = 0, l6 = 0, l7 = 0, l8 = 0, l9 = 0, l10 = 0, l11 = 0, l12 = 0, l13 = 0, l14 = 0, l15 = 0, l16 = 0, l17 = 0, l18 = 0, l20 = 0, l21 = 0, t1, t2, t3, t4;
     uint64_t l2 = 0, l3 = 0, l19 = 0;
     l2 = sp - 128ull;
@@ -11164,7 +11185,7 @@ L1:;
 }
 
 /* rattle::export hound_whole_frames */
-static uint64_t f130_hound_whole_frames(uint64_t l0, uint64_t l1) {
+static uint64_t f132_hound_whole_frames(uint64_t l0, uint64_t l1) {
     uint32_t l2 = 0, l3 = 0;
     l2 = load16(l0 + 4);
     l3 = load16(l0 + 8);
@@ -11185,7 +11206,7 @@ L1:;
 }
 
 /* rattle::export hound_write_f32 */
-static uint64_t f132_hound_write_f32(uint64_t sp, uint64_t l0, uint64_t l1, uint64_t l2, uint64_t l3, uint64_t l4) {
+static uint64_t f134_hound_write_f32(uint64_t sp, uint64_t l0, uint64_t l1, uint64_t l2, uint64_t l3, uint64_t l4) {
     uint32_t l6 = 0, l7 = 0, l8 = 0, l9 = 0, l10 = 0, l11 = 0, l12 = 0, l13 = 0, l14 = 0, t1;
     uint64_t l5 = 0, l15 = 0, l16 = 0, l17 = 0, l18 = 0, l19 = 0, l20 = 0, l21 = 0, l22 = 0;
     l5 = sp - 96ull;
@@ -11285,7 +11306,7 @@ L6:;
 }
 
 /* rattle::export hound_write_i16 */
-static uint64_t f134_hound_write_i16(uint64_t sp, uint64_t l0, uint64_t l1, uint64_t l2, uint64_t l3, uint64_t l4) {
+static uint64_t f136_hound_write_i16(uint64_t sp, uint64_t l0, uint64_t l1, uint64_t l2, uint64_t l3, uint64_t l4) {
     uint32_t l6 = 0, l7 = 0, l8 = 0, l9 = 0, l10 = 0, l11 = 0, l12 = 0, l13 = 0;
     uint64_t l5 = 0, l14 = 0, l15 = 0;
     l5 = sp - 112ull;
@@ -11414,7 +11435,7 @@ L1:;
 }
 
 /* rattle::export hound_write_i32 */
-static uint64_t f136_hound_write_i32(uint64_t sp, uint64_t l0, uint64_t l1, uint64_t l2, uint64_t l3, uint64_t l4) {
+static uint64_t f138_hound_write_i32(uint64_t sp, uint64_t l0, uint64_t l1, uint64_t l2, uint64_t l3, uint64_t l4) {
     uint32_t l6 = 0, l7 = 0, l8 = 0, l9 = 0, l10 = 0, l11 = 0, l12 = 0, l13 = 0;
     uint64_t l5 = 0, l14 = 0, l15 = 0;
     l5 = sp - 112ull;
@@ -11548,72 +11569,76 @@ int32_t hound_version(void) {
 
 int32_t hound_info(const uint8_t *file, size_t length, hound_info_t *info) {
     STACK(544);
-    return s32(f78_hound_info(sp, (uint64_t)(uintptr_t)file, length, (uint64_t)(uintptr_t)info));
+    return s32(f80_hound_info(sp, (uint64_t)(uintptr_t)file, length, (uint64_t)(uintptr_t)info));
 }
 
 int32_t hound_walk_next(hound_walk *walk, hound_info_t *info) {
     STACK(416);
-    return s32(f126_hound_walk_next(sp, (uint64_t)(uintptr_t)walk, (uint64_t)(uintptr_t)info));
+    return s32(f128_hound_walk_next(sp, (uint64_t)(uintptr_t)walk, (uint64_t)(uintptr_t)info));
 }
 
 int32_t hound_walk_to_end(hound_walk *walk, hound_info_t *info) {
     STACK(416);
-    return s32(f128_hound_walk_to_end(sp, (uint64_t)(uintptr_t)walk, (uint64_t)(uintptr_t)info));
+    return s32(f130_hound_walk_to_end(sp, (uint64_t)(uintptr_t)walk, (uint64_t)(uintptr_t)info));
 }
 
 int64_t hound_whole_frames(const hound_spec *spec, uint64_t length) {
-    return s64(f130_hound_whole_frames((uint64_t)(uintptr_t)spec, length));
+    return s64(f132_hound_whole_frames((uint64_t)(uintptr_t)spec, length));
 }
 
 int64_t hound_guess_data(const uint8_t *file, size_t length) {
-    return s64(f74_hound_guess_data((uint64_t)(uintptr_t)file, length));
+    return s64(f76_hound_guess_data((uint64_t)(uintptr_t)file, length));
 }
 
 int32_t hound_kind(const uint8_t *file, size_t length) {
-    return s32(f80_hound_kind((uint64_t)(uintptr_t)file, length));
+    return s32(f82_hound_kind((uint64_t)(uintptr_t)file, length));
 }
 
 int64_t hound_read_i16(const uint8_t *file, size_t length, uint64_t first, int16_t *out, size_t count) {
     STACK(544);
-    return s64(f84_hound_read_i16(sp, (uint64_t)(uintptr_t)file, length, first, (uint64_t)(uintptr_t)out, count));
+    return s64(f86_hound_read_i16(sp, (uint64_t)(uintptr_t)file, length, first, (uint64_t)(uintptr_t)out, count));
 }
 
 int64_t hound_read_i32(const uint8_t *file, size_t length, uint64_t first, int32_t *out, size_t count) {
     STACK(544);
-    return s64(f86_hound_read_i32(sp, (uint64_t)(uintptr_t)file, length, first, (uint64_t)(uintptr_t)out, count));
+    return s64(f88_hound_read_i32(sp, (uint64_t)(uintptr_t)file, length, first, (uint64_t)(uintptr_t)out, count));
 }
 
 int64_t hound_read_f32(const uint8_t *file, size_t length, uint64_t first, float *out, size_t count) {
     STACK(544);
-    return s64(f82_hound_read_f32(sp, (uint64_t)(uintptr_t)file, length, first, (uint64_t)(uintptr_t)out, count));
+    return s64(f84_hound_read_f32(sp, (uint64_t)(uintptr_t)file, length, first, (uint64_t)(uintptr_t)out, count));
 }
 
 int64_t hound_size(const hound_spec *spec, uint64_t samples) {
-    return s64(f108_hound_size((uint64_t)(uintptr_t)spec, samples));
+    return s64(f110_hound_size((uint64_t)(uintptr_t)spec, samples));
 }
 
 int64_t hound_header(const hound_spec *spec, uint64_t samples, uint8_t *out, size_t capacity) {
     STACK(176);
-    return s64(f76_hound_header(sp, (uint64_t)(uintptr_t)spec, samples, (uint64_t)(uintptr_t)out, capacity));
+    return s64(f78_hound_header(sp, (uint64_t)(uintptr_t)spec, samples, (uint64_t)(uintptr_t)out, capacity));
 }
 
 int64_t hound_sizes(const hound_spec *spec, uint64_t data_start, uint64_t samples, uint8_t *out, size_t capacity) {
-    return s64(f110_hound_sizes((uint64_t)(uintptr_t)spec, data_start, samples, (uint64_t)(uintptr_t)out, capacity));
+    return s64(f112_hound_sizes((uint64_t)(uintptr_t)spec, data_start, samples, (uint64_t)(uintptr_t)out, capacity));
+}
+
+int64_t hound_filler(uint64_t data_start, uint8_t *out, size_t capacity) {
+    return s64(f68_hound_filler(data_start, (uint64_t)(uintptr_t)out, capacity));
 }
 
 int64_t hound_write_i16(const hound_spec *spec, const int16_t *samples, size_t count, uint8_t *out, size_t capacity) {
     STACK(192);
-    return s64(f134_hound_write_i16(sp, (uint64_t)(uintptr_t)spec, (uint64_t)(uintptr_t)samples, count, (uint64_t)(uintptr_t)out, capacity));
+    return s64(f136_hound_write_i16(sp, (uint64_t)(uintptr_t)spec, (uint64_t)(uintptr_t)samples, count, (uint64_t)(uintptr_t)out, capacity));
 }
 
 int64_t hound_write_i32(const hound_spec *spec, const int32_t *samples, size_t count, uint8_t *out, size_t capacity) {
     STACK(192);
-    return s64(f136_hound_write_i32(sp, (uint64_t)(uintptr_t)spec, (uint64_t)(uintptr_t)samples, count, (uint64_t)(uintptr_t)out, capacity));
+    return s64(f138_hound_write_i32(sp, (uint64_t)(uintptr_t)spec, (uint64_t)(uintptr_t)samples, count, (uint64_t)(uintptr_t)out, capacity));
 }
 
 int64_t hound_write_f32(const hound_spec *spec, const float *samples, size_t count, uint8_t *out, size_t capacity) {
     STACK(176);
-    return s64(f132_hound_write_f32(sp, (uint64_t)(uintptr_t)spec, (uint64_t)(uintptr_t)samples, count, (uint64_t)(uintptr_t)out, capacity));
+    return s64(f134_hound_write_f32(sp, (uint64_t)(uintptr_t)spec, (uint64_t)(uintptr_t)samples, count, (uint64_t)(uintptr_t)out, capacity));
 }
 
 int64_t hound_append_i16(uint8_t *file, size_t capacity, size_t used, const int16_t *samples, size_t count) {
@@ -11633,26 +11658,26 @@ int64_t hound_append_f32(uint8_t *file, size_t capacity, size_t used, const floa
 
 int64_t hound_repair(uint8_t *file, size_t capacity, size_t used, hound_repair_t *found) {
     STACK(1024);
-    return s64(f100_hound_repair(sp, (uint64_t)(uintptr_t)file, capacity, used, (uint64_t)(uintptr_t)found));
+    return s64(f102_hound_repair(sp, (uint64_t)(uintptr_t)file, capacity, used, (uint64_t)(uintptr_t)found));
 }
 
 int64_t hound_repair_to_end(uint8_t *file, size_t capacity, size_t used, hound_repair_t *found) {
     STACK(1024);
-    return s64(f102_hound_repair_to_end(sp, (uint64_t)(uintptr_t)file, capacity, used, (uint64_t)(uintptr_t)found));
+    return s64(f104_hound_repair_to_end(sp, (uint64_t)(uintptr_t)file, capacity, used, (uint64_t)(uintptr_t)found));
 }
 
 int32_t hound_find_damage(const uint8_t *file, size_t length, hound_repair_t *found) {
     STACK(1008);
-    return s32(f68_hound_find_damage(sp, (uint64_t)(uintptr_t)file, length, (uint64_t)(uintptr_t)found));
+    return s32(f70_hound_find_damage(sp, (uint64_t)(uintptr_t)file, length, (uint64_t)(uintptr_t)found));
 }
 
 void hound_repairer_begin(uint64_t length, uint32_t mode, hound_repairer *repairer) {
-    f104_hound_repairer_begin(length, (uint32_t)mode, (uint64_t)(uintptr_t)repairer);
+    f106_hound_repairer_begin(length, (uint32_t)mode, (uint64_t)(uintptr_t)repairer);
 }
 
 int32_t hound_repairer_next(hound_repairer *repairer, hound_repair_t *found) {
     STACK(1984);
-    return s32(f106_hound_repairer_next(sp, (uint64_t)(uintptr_t)repairer, (uint64_t)(uintptr_t)found));
+    return s32(f108_hound_repairer_next(sp, (uint64_t)(uintptr_t)repairer, (uint64_t)(uintptr_t)found));
 }
 
 int64_t hound_decode_i8(const hound_spec *spec, const uint8_t *bytes, size_t length, int8_t *out, size_t count) {
@@ -11694,15 +11719,15 @@ int64_t hound_encode_f32(const hound_spec *spec, const float *samples, size_t co
 }
 
 int32_t hound_value_8(uint32_t container) {
-    return s32(f122_hound_value_8((uint32_t)container));
+    return s32(f124_hound_value_8((uint32_t)container));
 }
 
 int32_t hound_value_16(uint32_t container) {
-    return s32(f116_hound_value_16((uint32_t)container));
+    return s32(f118_hound_value_16((uint32_t)container));
 }
 
 int32_t hound_value_24(uint32_t container) {
-    return s32(f118_hound_value_24((uint32_t)container));
+    return s32(f120_hound_value_24((uint32_t)container));
 }
 
 int32_t hound_value_32(uint32_t container) {
@@ -11727,21 +11752,21 @@ int64_t hound_container_32(int32_t value) {
 
 int64_t hound_to_f32(const hound_spec *spec, const uint8_t *bytes, size_t length, float *out, size_t count) {
     STACK(16);
-    return s64(f112_hound_to_f32(sp, (uint64_t)(uintptr_t)spec, (uint64_t)(uintptr_t)bytes, length, (uint64_t)(uintptr_t)out, count));
+    return s64(f114_hound_to_f32(sp, (uint64_t)(uintptr_t)spec, (uint64_t)(uintptr_t)bytes, length, (uint64_t)(uintptr_t)out, count));
 }
 
 int64_t hound_from_f32(const hound_spec *spec, const float *samples, size_t count, uint8_t *out, size_t capacity, uint64_t *clipped) {
     STACK(16);
-    return s64(f70_hound_from_f32(sp, (uint64_t)(uintptr_t)spec, (uint64_t)(uintptr_t)samples, count, (uint64_t)(uintptr_t)out, capacity, (uint64_t)(uintptr_t)clipped));
+    return s64(f72_hound_from_f32(sp, (uint64_t)(uintptr_t)spec, (uint64_t)(uintptr_t)samples, count, (uint64_t)(uintptr_t)out, capacity, (uint64_t)(uintptr_t)clipped));
 }
 
 int64_t hound_to_f64(const hound_spec *spec, const uint8_t *bytes, size_t length, double *out, size_t count) {
-    return s64(f114_hound_to_f64((uint64_t)(uintptr_t)spec, (uint64_t)(uintptr_t)bytes, length, (uint64_t)(uintptr_t)out, count));
+    return s64(f116_hound_to_f64((uint64_t)(uintptr_t)spec, (uint64_t)(uintptr_t)bytes, length, (uint64_t)(uintptr_t)out, count));
 }
 
 int64_t hound_from_f64(const hound_spec *spec, const double *samples, size_t count, uint8_t *out, size_t capacity, uint64_t *clipped) {
     STACK(16);
-    return s64(f72_hound_from_f64(sp, (uint64_t)(uintptr_t)spec, (uint64_t)(uintptr_t)samples, count, (uint64_t)(uintptr_t)out, capacity, (uint64_t)(uintptr_t)clipped));
+    return s64(f74_hound_from_f64(sp, (uint64_t)(uintptr_t)spec, (uint64_t)(uintptr_t)samples, count, (uint64_t)(uintptr_t)out, capacity, (uint64_t)(uintptr_t)clipped));
 }
 
 int64_t hound_dither_f32(const hound_spec *spec, const float *samples, size_t count, uint64_t *state, uint8_t *out, size_t capacity, uint64_t *clipped) {
@@ -11768,28 +11793,28 @@ int32_t hound_beginning(const hound_spec *spec, uint32_t number, hound_effect *e
 }
 
 int32_t hound_recorder_begin(const hound_spec *spec, hound_recorder *recorder) {
-    return s32(f88_hound_recorder_begin((uint64_t)(uintptr_t)spec, (uint64_t)(uintptr_t)recorder));
+    return s32(f90_hound_recorder_begin((uint64_t)(uintptr_t)spec, (uint64_t)(uintptr_t)recorder));
 }
 
 int32_t hound_recorder_resume(const hound_repair_t *found, uint32_t allowed, hound_recorder *recorder) {
-    return s32(f96_hound_recorder_resume((uint64_t)(uintptr_t)found, (uint32_t)allowed, (uint64_t)(uintptr_t)recorder));
+    return s32(f98_hound_recorder_resume((uint64_t)(uintptr_t)found, (uint32_t)allowed, (uint64_t)(uintptr_t)recorder));
 }
 
 int32_t hound_recorder_write(hound_recorder *recorder, uint64_t samples) {
     STACK(176);
-    return s32(f98_hound_recorder_write(sp, (uint64_t)(uintptr_t)recorder, samples));
+    return s32(f100_hound_recorder_write(sp, (uint64_t)(uintptr_t)recorder, samples));
 }
 
 void hound_recorder_checkpoint(hound_recorder *recorder) {
     STACK(176);
-    f90_hound_recorder_checkpoint(sp, (uint64_t)(uintptr_t)recorder);
+    f92_hound_recorder_checkpoint(sp, (uint64_t)(uintptr_t)recorder);
 }
 
 int64_t hound_recorder_frames_left(const hound_recorder *recorder) {
-    return s64(f92_hound_recorder_frames_left((uint64_t)(uintptr_t)recorder));
+    return s64(f94_hound_recorder_frames_left((uint64_t)(uintptr_t)recorder));
 }
 
 int32_t hound_recorder_next(hound_recorder *recorder) {
     STACK(304);
-    return s32(f94_hound_recorder_next(sp, (uint64_t)(uintptr_t)recorder));
+    return s32(f96_hound_recorder_next(sp, (uint64_t)(uintptr_t)recorder));
 }

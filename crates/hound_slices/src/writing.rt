@@ -13,8 +13,8 @@ use hound_sample::{Sample, SampleError, check_containers, have_containers, store
 use hound_spec::{SampleFormat, WavSpecEx, header_length, header_of, is_pair, riff_size_fits};
 use hound_walk::find_samples;
 
-// A chunk of two bytes that say nothing.
-const FILLER: [u8; 10] = *b"JUNK\x02\0\0\0\0\0";
+// How long a chunk of two bytes is.
+const FILLER_LENGTH: usize = 10;
 
 // Checks that samples of a format have containers of a spec, which is written.
 fn check_samples<S: Sample + Copy>(
@@ -179,11 +179,17 @@ pub fn write_filler(data_start: u64, out: &mut [u8]) -> Result<usize, CallError>
     if data_start.saturating_sub(4) / 512 == data_start.saturating_sub(1) / 512 {
         return Ok(0);
     }
-    if out.len() < FILLER.len() {
+    if out.len() < FILLER_LENGTH {
         return Err(CallError::NoRoom);
     }
-    out[..FILLER.len()].copy_from_slice(&FILLER);
-    Ok(FILLER.len())
+    out[0] = b'J';
+    out[1] = b'U';
+    out[2] = b'N';
+    out[3] = b'K';
+    out[4..8].copy_from_slice(&le_u32(2));
+    out[8] = 0;
+    out[9] = 0;
+    Ok(FILLER_LENGTH)
 }
 
 /// Writes the file of these samples to the front of `out`, and returns its length.
