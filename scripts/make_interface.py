@@ -231,7 +231,7 @@ def constants_js():
     for names in (
         ["INT", "FLOAT", "EFFECT_BYTES", "DONE", "FAILED"],
         EFFECTS,
-        [*MODES, "OVERWRITE"],
+        [*MODES, *ALLOWED],
         ["KIND_UNKNOWN", "KIND_FLOAT64"],
     ):
         lines.append(f"const [{', '.join(names)}] = [{', '.join(str(NUMBERS[name]) for name in names)}];")
@@ -280,7 +280,7 @@ USES = [
     ("bindings/c/board.c", r"\bHOUND_{}\b", EFFECTS),
     ("bindings/rust/src", r"\bc::{}\b", [*EFFECTS, *FORMATS, *STATES, *MODES, *ALLOWED]),
     ("bindings/python/hound_bindings", r"\b_?{}\b", [*EFFECTS, *STATES, *MODES]),
-    ("bindings/js", r"\b{}\b", [*EFFECTS, *FORMATS, *MODES]),
+    ("bindings/js", r"\b{}\b", [*EFFECTS, *FORMATS, *MODES, *ALLOWED]),
     ("bindings/js", r"\b{}: ", [name.strip('"') for name in states_js()]),
 ]
 # Where the version is, and the text that has it there.

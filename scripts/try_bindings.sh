@@ -439,6 +439,7 @@ if has python3 "the Python package" && has "$cc" "the Python package"; then
     fi
     has strace "record.c at the edges of a recording" \
         && check "record.c at the edges of a recording, and its wrong versions" python3 bindings/tests/recorder.py
+    check "killed recorders that start again with the same file, by record.c and Node" python3 bindings/tests/starts.py 20
     has strace "repair.c" \
         && check "files cut at each byte by repair.c, which is killed, fails and loses its power, and its wrong versions" with_package bindings/tests/repairs.py short
     has strace "repair_file" && has cargo "repair_file" \

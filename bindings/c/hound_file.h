@@ -375,27 +375,59 @@ static inline int32_t hound_file_open(hound_file *file, const char *path, int fl
     return file->fault ? hound_file_give_up(file, path, is_made, HOUND_NOT_PERFORMED) : 0;
 }
 
-/* As is_emptied: the file may exist without bytes, as a recorder leaves it that is killed before its header. */
+/* As is_emptied: the file may exist with less than the header of a new one, as a recorder leaves it that is killed
+   before its header is written. */
 enum { HOUND_FILE_IF_EMPTY = 2 };
 
 /* Performs an effect on a file at a path, and reports it: whether that was done. */
-static inline int hound_file_perform_at(hound_file *file, const char *path, hound_effect *effect) {
-    if (effect->kind != HOUND_SYNC_FOLDER) return hound_file_perform(file, effect, NULL);
+static inline int hound_file_perform_at(hound_file *file, const char *path, hound_effect *effect,
+                                        const uint8_t *block) {
+    if (effect->kind != HOUND_SYNC_FOLDER) return hound_file_perform(file, effect, block);
     if (file->is_durable && hound_file_sync_folder(path) < 0) file->fault = errno;
     effect->report = file->fault ? HOUND_FAILED : HOUND_DONE;
     return !file->fault;
 }
 
+/* What hound_beginning returns for a number, which becomes that of the effect after this one. Writes that follow one
+   another are one block, in this room of HOUND_HEADER_BYTES: so no kill comes between the two parts of a header. */
+static inline int32_t hound_file_beginning(const hound_spec *spec, uint32_t *number, hound_effect *effect,
+                                           uint8_t *block) {
+    hound_effect next;
+    int32_t code = hound_beginning(spec, (*number)++, effect);
+    if (code != 1 || effect->kind != HOUND_WRITE) return code;
+    effect->kind = HOUND_WRITE_BLOCK;
+    memcpy(block, effect->bytes, effect->length);
+    while (hound_beginning(spec, *number, &next) == 1 && next.kind == HOUND_WRITE
+           && next.place == effect->place + effect->length && effect->length + next.length <= HOUND_HEADER_BYTES) {
+        memcpy(block + effect->length, next.bytes, next.length);
+        effect->length += next.length, ++*number;
+    }
+    return 1;
+}
+
 /* Performs the effects with which a file begins, and those of the checkpoint after them. */
 static inline int32_t hound_file_begin(hound_file *file, const char *path, const hound_spec *spec) {
+    uint8_t header[HOUND_HEADER_BYTES];
     hound_effect effect;
     uint32_t number = 0;
     int32_t code;
-    while ((code = hound_beginning(spec, number, &effect)) == 1) {
-        if (!hound_file_perform_at(file, path, &effect)) return HOUND_NOT_PERFORMED;
-        number++;
-    }
+    while ((code = hound_file_beginning(spec, &number, &effect, header)) == 1)
+        if (!hound_file_perform_at(file, path, &effect, header)) return HOUND_NOT_PERFORMED;
     return code < 0 ? code : hound_file_finish(file, NULL);
+}
+
+/* Whether a file of so many bytes is less than the header with which a new one of this spec begins, and equal to it as
+   far as it goes: then it holds no sample. */
+static inline int hound_file_is_unbegun(const hound_file *file, const hound_spec *spec, uint64_t held) {
+    uint8_t header[HOUND_HEADER_BYTES], there[HOUND_HEADER_BYTES];
+    hound_effect effect;
+    uint32_t number = 0;
+    do
+        if (hound_file_beginning(spec, &number, &effect, header) != 1) return 0;
+    while (effect.kind != HOUND_WRITE_BLOCK);
+    return effect.place == 0 && held < effect.length
+           && hound_file_read_at(file->descriptor, there, (size_t)held, 0) == (int64_t)held
+           && memcmp(there, header, (size_t)held) == 0;
 }
 
 /* Begins a recording in a new file; one that exists is an error (EEXIST), or is emptied. */
@@ -407,45 +439,81 @@ static inline int32_t hound_file_create(hound_file *file, const char *path, cons
     file->descriptor = -1, file->fault = 0, file->counted = 0, file->kind = HOUND_KIND_UNKNOWN;
     if (code == 0) code = hound_file_open(file, path, flags, is_durable, &held);
     if (code < 0) return code;
-    if (is_emptied == HOUND_FILE_IF_EMPTY && held > 0) file->fault = EEXIST, code = HOUND_NOT_PERFORMED;
+    if (is_emptied == HOUND_FILE_IF_EMPTY && !hound_file_is_unbegun(file, spec, held))
+        file->fault = EEXIST, code = HOUND_NOT_PERFORMED;
     else code = hound_file_begin(file, path, spec);
     return code < 0 ? hound_file_give_up(file, path, !is_emptied, code) : 0;
+}
+
+/* Opens a file, and looks what it holds. */
+static inline int32_t hound_file_find_recording(hound_file *file, const char *path, int is_durable, uint64_t *length,
+                                                hound_repair_t *found) {
+    int32_t code = hound_file_open(file, path, O_RDWR, is_durable, length);
+    if (code < 0) return code;
+    if (is_durable && (hound_file_sync(file->descriptor) < 0 || hound_file_sync_folder(path) < 0))
+        file->fault = errno, code = HOUND_NOT_PERFORMED;
+    else code = hound_file_examine(file, *length, HOUND_FIND_DAMAGE, 0, found);
+    return code < 0 ? hound_file_give_up(file, path, 0, code) : 0;
+}
+
+/* Begins the recorder of a file that was found like this. */
+static inline int32_t hound_file_resume(hound_file *file, const hound_repair_t *found, uint32_t allowed) {
+    file->counted = found->data_length;
+    return hound_recorder_resume(found, allowed, &file->recorder);
 }
 
 /* Continues the recording in a file, as hound_recorder_resume does with what is allowed: nothing of it changes yet. */
 static inline int32_t hound_file_append(hound_file *file, const char *path, uint32_t allowed, int is_durable,
                                         hound_repair_t *found) {
     uint64_t length = 0;
-    int32_t code = hound_file_open(file, path, O_RDWR, is_durable, &length);
+    int32_t code = hound_file_find_recording(file, path, is_durable, &length, found);
     if (code < 0) return code;
-    if (is_durable && (hound_file_sync(file->descriptor) < 0 || hound_file_sync_folder(path) < 0)) {
-        file->fault = errno;
-        return hound_file_give_up(file, path, 0, HOUND_NOT_PERFORMED);
-    }
-    code = hound_file_examine(file, length, HOUND_FIND_DAMAGE, 0, found);
-    if (code == 0) code = hound_recorder_resume(found, allowed, &file->recorder);
-    file->counted = found->data_length;
+    code = hound_file_resume(file, found, allowed);
     return code < 0 ? hound_file_give_up(file, path, 0, code) : 0;
 }
 
-/* Goes on with the recording at a path, whatever is there: one that was cut off is repaired first, by the first
-   checkpoint, and where no file is, or one without bytes, as a kill before the header leaves it, a new one begins.
-   `found` is what was there; in a new file its state is whole, and all else 0. A file of another spec is
-   HOUND_OTHER_FORMAT, and stays as it is. So does one that chunks follow, or whose header isn't all there. */
+/* Repairs a file that is open, and begins its recorder. */
+static inline int32_t hound_file_resume_repaired(hound_file *file, uint64_t length) {
+    hound_repair_t found;
+    int is_durable = file->is_durable, is_regular;
+    int32_t code;
+    file->is_durable = 1; /* A repair always syncs. */
+    code = hound_file_examine(file, length, HOUND_REPAIR, 0, &found);
+    file->is_durable = is_durable;
+    if (code < 0) return code;
+    if (hound_file_find(file->descriptor, &length, &is_regular) < 0)
+        return file->fault = errno, HOUND_NOT_PERFORMED;
+    code = hound_file_examine(file, length, HOUND_FIND_DAMAGE, 0, &found);
+    return code < 0 ? code : hound_file_resume(file, &found, HOUND_MEND);
+}
+
+/* Whether samples of a spec continue those of another one, whose bytes per sample are known. */
+static inline int hound_file_continues(const hound_spec *spec, const hound_spec *held) {
+    return held->sample_rate == spec->sample_rate && held->channels == spec->channels
+           && held->bits_per_sample == spec->bits_per_sample && held->sample_format == spec->sample_format
+           && (spec->bytes_per_sample == 0 || held->bytes_per_sample == spec->bytes_per_sample);
+}
+
+/* Goes on with the recording at a path, whatever a kill or a loss of power has left of it. One that was cut off is
+   repaired first, by the first checkpoint; or here, where the header counts more than the file holds, or a part of a
+   frame, because a recorder never cuts off what is counted. A new one begins where no file is, or one that holds less
+   than the header of a new one, and nothing else. `found` is what was there; in a new file its state is whole, and all
+   else 0. A file of another spec is HOUND_OTHER_FORMAT, and stays as it is. So does one that chunks follow, or whose
+   header is another one and isn't all there. */
 static inline int32_t hound_file_continue(hound_file *file, const char *path, const hound_spec *spec, int is_durable,
                                           hound_repair_t *found) {
-    const hound_spec *held = &found->spec;
-    int32_t code = hound_file_append(file, path, HOUND_MEND, is_durable, found);
+    uint64_t length = 0;
+    int32_t code = hound_file_find_recording(file, path, is_durable, &length, found);
     if (code == HOUND_ENDED || (code < 0 && file->fault == ENOENT)) {
         memset(found, 0, sizeof *found);
         code = hound_file_create(file, path, spec, is_durable, HOUND_FILE_IF_EMPTY);
         if (file->fault == EEXIST) file->fault = 0, code = HOUND_ENDED;
-    } else if (code == 0
-               && (held->sample_rate != spec->sample_rate || held->channels != spec->channels
-                   || held->bits_per_sample != spec->bits_per_sample || held->sample_format != spec->sample_format
-                   || (spec->bytes_per_sample != 0 && held->bytes_per_sample != spec->bytes_per_sample)))
-        code = hound_file_give_up(file, path, 0, HOUND_OTHER_FORMAT);
-    return code;
+        return code;
+    }
+    if (code < 0) return code;
+    code = hound_file_continues(spec, &found->spec) ? hound_file_resume(file, found, HOUND_MEND) : HOUND_OTHER_FORMAT;
+    if (code == HOUND_TRUNCATED || code == HOUND_UNFINISHED_FRAME) code = hound_file_resume_repaired(file, length);
+    return code < 0 ? hound_file_give_up(file, path, 0, code) : 0;
 }
 
 /* Makes the header count all samples. */

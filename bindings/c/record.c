@@ -1,13 +1,14 @@
 /* Records PCM from standard input: little-endian, with 8 bits (unsigned), 16, 24 in three bytes, or 32, as from
-   arecord. After every so many frames a checkpoint makes the header count all samples, and prints how many they are. If
-   the program is killed, the file has those. A file that exists is rejected; --append continues after all that it
-   holds, and begins one that is missing, or without bytes, as a kill before the header leaves it; --overwrite empties
-   it. With --split a file has at most so many frames, and never more than have room: take.wav is continued in
-   take-002.wav, take-003.wav and so on, none of which may exist. No other program that asks for a lock (flock;
-   LockFileEx on Windows), as repair.c does, writes it meanwhile. With --durable a sync is an fsync (_commit): then the
-   file has its checkpoints after a loss of power, too, but Windows may lose the name of a new one. Without it a sync
-   does nothing, since what was written is with the system. After an error the program continues, and prints how many
-   samples were lost; why, it says on standard error. It ends at the name of a next file that exists.
+   arecord. After every so many frames a checkpoint makes the header count all samples, and prints how many they are.
+   If the program is killed, the file has those. A file that exists is rejected; --append continues after all that it
+   holds, repaired first if that is needed, and begins one that is missing, or has only a part of a new header, as a
+   kill leaves it; --overwrite empties it. With --split a file has at most so many frames, and never more than have
+   room: take.wav is continued in take-002.wav, take-003.wav and so on, none of which may exist. No other program that
+   asks for a lock (flock; LockFileEx on Windows), as repair.c does, writes it meanwhile. With --durable a sync is an
+   fsync (_commit): then the file has its checkpoints after a loss of power, too, but Windows may lose the name of a
+   new one. Without it a sync does nothing, since what was written is with the system. After an error the program
+   continues, and prints how many samples were lost; why, it says on standard error. It ends at the name of a next file
+   that exists.
      cc -Ibindings/c bindings/c/record.c bindings/lib/x86_64-linux/libhound_c.a -o record
      arecord -t raw -f S16_LE -r 48000 -c 2 | ./record take.wav 48000 2 16 240000 --durable */
 #include "hound_file.h"
@@ -79,7 +80,6 @@ int main(int argc, char **argv) {
     int32_t code = is_appended ? hound_file_continue(&file, argv[1], &spec, is_durable, &found)
                                : hound_file_create(&file, argv[1], &spec, is_durable, is_overwritten);
     if (file.fault == EEXIST) stop("the file exists: --append continues it, --overwrite empties it");
-    if (code == HOUND_UNFINISHED_FRAME) stop("the header counts a part of a frame: repair the file first");
     if (code < 0) stop(hound_file_reason(&file, code, room));
     hound_file_set_binary(0);
 #ifdef SIGPIPE

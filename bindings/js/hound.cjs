@@ -12,8 +12,8 @@ async function after(name, given) {
 }
 
 const FUNCTIONS = [
-  "append", "appendTo", "findDamage", "findDamageInFile", "guess", "guessStart", "info", "read", "record", "repair",
-  "repairFile", "write",
+  "append", "appendTo", "continueFile", "findDamage", "findDamageInFile", "guess", "guessStart", "info", "read",
+  "record", "repair", "repairFile", "write",
 ];
 for (const name of FUNCTIONS) {
   exports[name] = (...given) => loaded ? loaded[name](...given) : after(name, given.map(copied));

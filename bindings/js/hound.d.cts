@@ -241,6 +241,19 @@ export function record(
 export function appendTo(path: string | URL, options?: { durable?: boolean }): Promise<Recorder>;
 
 /**
+ * Goes on with the recording at a path, in Node: for a program that has to start by itself again after a kill or a loss
+ * of power. A recording that was cut off continues after all whole frames that it holds. A new one begins where no file
+ * is, or one that holds a part of such a header and nothing else, as a kill leaves it. Where the header counts more
+ * than the file holds, or a part of a frame, the file is repaired first. A file of another format is an error
+ * ("OTHER_FORMAT"), and so are chunks or a tag after the data; then it stays as it is.
+ */
+export function continueFile(
+  path: string | URL,
+  format: Format & { bitsPerSample: number },
+  options?: { durable?: boolean },
+): Promise<Recorder>;
+
+/**
  * A file that is recorded. Calls are performed one after the other, in the order in which they are made. After an error
  * a block is in the file only if its `write` was fulfilled, and the next call makes a checkpoint first; after a sync
  * that failed each call is an error. Whenever the program is killed, the header counts only samples that were written,

@@ -119,7 +119,7 @@ function checked(code) {
 const VERSION = 512;
 const [INT, FLOAT, EFFECT_BYTES, DONE, FAILED] = [0, 1, 40, 1, 2];
 const [READ, WRITE, WRITE_BLOCK, SYNC, SHORTEN, SYNC_FOLDER] = [1, 2, 3, 4, 5, 6];
-const [FIND_DAMAGE, REPAIR, REPAIR_TO_END, MAKE_CANONICAL, OVERWRITE] = [0, 1, 2, 3, 2];
+const [FIND_DAMAGE, REPAIR, REPAIR_TO_END, MAKE_CANONICAL, MEND, OVERWRITE] = [0, 1, 2, 3, 1, 2];
 const [KIND_UNKNOWN, KIND_FLOAT64] = [65536, 65545];
 const STATES = ["whole", "cutOff", "hasChunksAfterData", "allCounted"];
 const LAYOUT = {
@@ -875,12 +875,21 @@ export async function findDamageInFile(path) {
   return repairAt(path, "r", FIND_DAMAGE);
 }
 
-/** The recorder that appends to a file of so many bytes, and its spec. */
-async function resumed(size, perform, allowed) {
-  const { found } = await repairBy(size, FIND_DAMAGE, perform), recorder = new Machine("recorder");
+/** The recorder that appends to a file of so many bytes, and its spec, which may have to continue another one. */
+async function resumed(size, perform, allowed, spec) {
+  const { found, report } = await repairBy(size, FIND_DAMAGE, perform), recorder = new Machine("recorder");
+  if (spec) checkContinues(spec, report);
   shared.bytes.set(found, FOUND);
   checked(recorder.call("recorder_resume", shared.at(FOUND), allowed, shared.at(MACHINE)));
   return { recorder, spec: shared.specAt(FOUND) };
+}
+
+/** An error where samples of a spec don't continue those of a file. */
+function checkContinues(spec, held) {
+  const names = ["sampleRate", "channels", "bitsPerSample", "bytesPerSample", "isFloat"];
+  if (names.every((name) => spec[name] === held[name])) return;
+  const message = "the file has samples of another rate, format or number of channels";
+  throw Object.assign(new HoundError("OTHER_FORMAT"), { message });
 }
 
 /** A file that is recorded. What is requested of it is performed one after the other. */
@@ -1076,15 +1085,33 @@ async function syncFolder({ open, realpath }, path) {
   await folder.sync().finally(() => folder.close());
 }
 
-/** Performs the effects with which a file begins. */
-async function beginOn(handle, durable, syncName, spec) {
-  const machine = new Machine("effect");
+/** The effects with which a file begins. Writes that follow one another are one, so that no kill comes between the two
+    parts of a header. */
+function beginningOf(spec) {
+  const machine = new Machine("effect"), effects = [];
   for (let number = 0; ; number++) {
     shared.putSpec(spec);
-    if (checked(machine.call("beginning", shared.at(SPEC), number, shared.at(MACHINE))) === 0) return;
-    const { effect } = machine;
+    if (checked(machine.call("beginning", shared.at(SPEC), number, shared.at(MACHINE))) === 0) return effects;
+    const { kind, place, bytes } = machine.effect, last = effects.at(-1);
+    const isRest = kind === WRITE && last?.kind === WRITE && place === last.place + last.bytes.length;
+    if (isRest) last.bytes = joined([last.bytes, bytes]);
+    else effects.push({ kind, place, bytes: bytes.slice() });
+  }
+}
+
+/** Performs the effects with which a file begins. */
+async function beginOn(handle, durable, syncName, spec) {
+  for (const effect of beginningOf(spec)) {
     await (effect.kind === SYNC_FOLDER ? syncName() : performOn(handle, durable, effect));
   }
+}
+
+/** Whether a file is less than the header with which a new one begins, and equal to it as far as it goes: then it holds
+    no sample. */
+async function isUnbegun(handle, spec) {
+  const { place, bytes } = beginningOf(spec).find(({ kind }) => kind === WRITE), { size } = await handle.stat();
+  if (place !== 0 || size >= bytes.length) return false;
+  return (await readAt(handle, { place, length: size })).every((byte, i) => byte === bytes[i]);
 }
 
 /** The path of a further file of a recording, as take-002.wav is the second one of take.wav. */
@@ -1122,26 +1149,56 @@ export async function record(path, format, { split, ...how } = {}) {
   return Recorder.split(await recordOne(path, format, how), split, first, { begin, remove });
 }
 
-/** Records to one file. */
-async function recordOne(path, format, { durable = false, exclusive = false } = {}) {
-  const spec = specFor({}, format ?? {}), recorder = new Machine("recorder");
-  const { constants } = await files();
+/** The recorder of a new file of this spec. */
+function begun(given) {
+  const spec = { ...given }, recorder = new Machine("recorder");
   shared.putSpec(spec);
   checked(recorder.call("recorder_begin", shared.at(SPEC), shared.at(MACHINE)));
   spec.bytesPerSample = widthOf(spec.isFloat ? TYPES.float32 : TYPES.int32, spec);
+  return { recorder, spec };
+}
+
+/** Records to one file. */
+async function recordOne(path, format, { durable = false, exclusive = false } = {}) {
+  const spec = specFor({}, format ?? {}), { constants } = await files(), given = begun(spec);
   const flags = constants.O_RDWR | constants.O_CREAT | (exclusive ? constants.O_EXCL : 0);
   return recorderOf(path, flags, durable, async (handle, syncName) => {
-    await beginOn(handle, durable, syncName, spec);
-    return { recorder, spec };
+    await beginOn(handle, durable, syncName, given.spec);
+    return given;
   });
+}
+
+/** The recorder that appends to a file of Node, and its spec. */
+async function resumedOn(handle, durable, syncName, allowed, spec) {
+  if (durable) await handle.sync();
+  await syncName();
+  return resumed((await handle.stat()).size, (effect) => performOn(handle, durable, effect), allowed, spec);
 }
 
 /** Continues a recording at a path, in Node, after the frames of the file. What `append` rejects is an error. */
 export async function appendTo(path, { durable = false } = {}) {
-  return recorderOf(path, "r+", durable, async (handle, syncName) => {
-    if (durable) await handle.sync();
-    await syncName();
-    return resumed((await handle.stat()).size, (effect) => performOn(handle, durable, effect), 0);
+  return recorderOf(path, "r+", durable, (handle, syncName) => resumedOn(handle, durable, syncName, 0));
+}
+
+/**
+ * Goes on with the recording at a path, in Node, whatever a kill or a loss of power has left of it: after all whole
+ * frames of one that was cut off, or from the start where no file is, or one that holds less than the header of a new
+ * one and nothing else. Where the header counts more than the file holds, or a part of a frame, the file is repaired
+ * first, because a recorder never cuts off what is counted. A file of another spec is an error, and stays as it is.
+ */
+export async function continueFile(path, format, { durable = false } = {}) {
+  const spec = specFor({}, format ?? {}), { constants } = await files(), given = begun(spec);
+  return recorderOf(path, constants.O_RDWR | constants.O_CREAT, durable, async (handle, syncName) => {
+    if (await isUnbegun(handle, given.spec)) {
+      await beginOn(handle, durable, syncName, given.spec);
+      return given;
+    }
+    const resume = () => resumedOn(handle, durable, syncName, MEND, given.spec);
+    return resume().catch(async (error) => {
+      if (!["TRUNCATED", "UNFINISHED_FRAME"].includes(error.code)) throw error;
+      await repairBy((await handle.stat()).size, REPAIR, (effect) => performOn(handle, true, effect));
+      return resume();
+    });
   });
 }
 

@@ -53,12 +53,14 @@ WRONG = {
         "else if (file->fault == 0) file->fault = errno;",
         "else file->fault = errno;",
     ),
-    "what to do with a part of a frame isn't said": (
-        'if (code == HOUND_UNFINISHED_FRAME) stop("the header counts a part of a frame: repair the file first");',
-        "",
+    "a header that counts a part of a frame isn't repaired": ("|| code == HOUND_UNFINISHED_FRAME", ""),
+    "a header that counts too much isn't repaired": ("if (code == HOUND_TRUNCATED || ", "if ("),
+    "a file of another spec is repaired": (
+        "code = hound_file_continues(spec, &found->spec) ?",
+        "code = found->counted > found->frames ? HOUND_TRUNCATED : hound_file_continues(spec, &found->spec) ?",
     ),
-    "samples of another rate are appended": ("held->sample_rate != spec->sample_rate || ", ""),
-    "samples of other channels are appended": ("held->channels != spec->channels", "0"),
+    "samples of another rate are appended": ("held->sample_rate == spec->sample_rate && ", ""),
+    "samples of other channels are appended": (" && held->channels == spec->channels", ""),
     "a missing file isn't begun": ("|| (code < 0 && file->fault == ENOENT)", ""),
     "a rest of a block isn't reported": (
         'if (file.has_rest) complain("a part of a block that was lost stays in the file");',
@@ -77,9 +79,11 @@ WRONG = {
         "file->fault == 0) file->fault = errno;\n    effect->report = is_done ? HOUND_DONE : HOUND_FAILED;",
         "file->fault == 0) file->fault = errno;\n    effect->report = HOUND_DONE;",
     ),
-    "a recording that was cut off is overwritten": ("HOUND_MEND, is_durable", "HOUND_OVERWRITE, is_durable"),
+    "a recording that was cut off is overwritten": ("found, HOUND_MEND) :", "found, HOUND_OVERWRITE) :"),
     "an empty file isn't begun anew": ("if (code == HOUND_ENDED || ", "if ("),
-    "a file with a part of a header is emptied": ("is_emptied == HOUND_FILE_IF_EMPTY && held > 0", "0"),
+    "a file with a part of a header isn't begun anew": ("&& held < effect.length", "&& held == 0"),
+    "a file with a part of another header is emptied": ("&& memcmp(there, header, (size_t)held) == 0", ""),
+    "a header is written in two parts": ("effect->length + next.length <= HOUND_HEADER_BYTES", "0"),
     "a part that exists is emptied": ("spec, file->is_durable, 0), closed;", "spec, file->is_durable, 1), closed;"),
     "a part is ended without its last checkpoint": (
         "    code = hound_file_checkpoint(file);\n    if (code < 0) return hound_file_give_up(&next",
@@ -89,7 +93,7 @@ WRONG = {
     "a part has a frame more": ("? left : most - held;", "? left : most - held + 1;"),
     "the samples of parts before aren't counted": ("parts++, before = held;", "parts++;"),
     "the name of the second part isn't looked at first": ("if (is_split && is_there(", "if (0 && is_there("),
-    "chunks after the data are overwritten": ("HOUND_MEND, is_durable", "HOUND_MEND | HOUND_OVERWRITE, is_durable"),
+    "chunks after the data are overwritten": ("found, HOUND_MEND) :", "found, HOUND_MEND | HOUND_OVERWRITE) :"),
 }
 
 # A version that is right: of three reports two are lost, so that each effect is performed three times.
@@ -231,21 +235,20 @@ def cut_off(record, path):
     expect("frames that the file held are lost", counted_in(path) == 600 and os.path.getsize(path) == 44 + 1200)
 
 
-def counted_torn_frame(record, path):
-    """A file whose header counts a part of a frame, which a recorder never cuts off."""
-    run([record, path, *SHAPE], DATA[:8])
-    with open(path, "r+b") as file:
-        file.truncate(44 + 6)
-        file.seek(40)
-        file.write(b"\6")
-    before = contents_of(path)
-    said = b"the header counts a part of a frame: repair the file first"
-    expect("what to do isn't said", is_rejected(run([record, path, *SHAPE, "--append"]), said))
-    expect("it changes", contents_of(path) == before)
-    repair = compiled(os.path.dirname(path), "repair", text_of("repair"))
-    expect("it isn't repaired", run([repair, path]).returncode == 0)
-    expect("it isn't continued", run([record, path, *SHAPE, "--append"], DATA[4:400]).returncode == 0)
-    expect("other samples are in it", counted_in(path) == 200)
+def counts_too_much(record, path):
+    """A file whose header counts a part of a frame, or more than the file holds, as after a loss of power: a recorder
+    never cuts off what is counted, so the file is repaired first."""
+    for counted in 6, 8, 200:
+        run([record, path, *SHAPE, "--overwrite"], DATA[:8])
+        with open(path, "r+b") as file:
+            file.truncate(44 + 6)
+            file.seek(40)
+            file.write(bytes([counted]))
+        before = contents_of(path)
+        expect("another spec is taken", run([record, path, "8000", *SHAPE[1:], "--append"]).returncode == 1)
+        expect("a file of another spec changes", contents_of(path) == before)
+        expect("it isn't continued", run([record, path, *SHAPE, "--append"], DATA[4:400]).returncode == 0)
+        expect("other samples are in it", counted_in(path) == 200)
 
 
 def torn_frame(record, path):
@@ -317,17 +320,28 @@ def file_without_a_number(record, path):
 
 
 def killed_before_the_header(record, path):
-    run([*failing(path, "pwrite64:signal=KILL:when=1"), record, path, *SHAPE, "--durable"])
-    expect("the killed recorder leaves no empty file", os.path.getsize(path) == 0)
+    for number, size in (1, 0), (2, 44):
+        run([*failing(path, f"pwrite64:signal=KILL:when={number}"), record, path, *SHAPE, "--durable", "--overwrite"])
+        expect("a kill leaves a part of a header", os.path.getsize(path) == size)
+        expect("it isn't begun anew", run([record, path, *SHAPE, "--append"]).returncode == 0)
+        expect("other samples are in it", counted_in(path) == len(DATA) // 2)
+        os.truncate(path, 0)
     expect("it is recorded over", is_rejected(run([record, path, *SHAPE]), b"the file exists"))
     ran = run([record, path, *SHAPE, "--durable", "--append"])
     expect("it isn't begun anew", ran.returncode == 0 and counted_in(path) == len(DATA) // 2)
     whole = contents_of(path)
-    for length in 1, 20, 43:
+    new = whole[:4] + bytes(4) + whole[8:40] + bytes(4)  # Both sizes are 0 before the first checkpoint.
+    for length in 1, 20, 40, 43, 44:
         with open(path, "wb") as file:
-            file.write(whole[:length])
-        expect("a cut header is overwritten", is_rejected(run([record, path, *SHAPE, "--append"]), b"the bytes end"))
-        expect("a file with a cut header changes", contents_of(path) == whole[:length])
+            file.write(new[:length])
+        ran = run([record, path, *SHAPE, "--append"])
+        expect("a part of a new header isn't begun anew", ran.returncode == 0 and contents_of(path) == whole)
+    for left in whole[:20], whole[:43], new[:24] + struct.pack("<II", 44100, 4 * 44100) + new[32:43]:
+        with open(path, "wb") as file:
+            file.write(left)
+        ran = run([record, path, *SHAPE, "--append"])
+        expect("another header is overwritten", is_rejected(ran, b"the bytes end"))
+        expect("a file with another header changes", contents_of(path) == left)
     os.remove(path)
     ran = run([record, path, *SHAPE, "--append"])
     expect("a missing file isn't begun", ran.returncode == 0 and contents_of(path) == whole)
@@ -451,7 +465,7 @@ CHECKS = [
     slow_input,
     cut_off,
     torn_frame,
-    counted_torn_frame,
+    counts_too_much,
     full_disk,
     failing_cut,
     failing_header,

@@ -6,7 +6,7 @@ import node from "node:fs";
 import fs from "node:fs/promises";
 import os from "node:os";
 import path from "node:path";
-import { HoundError, append, appendTo, info, read, record, repairFile, write } from "../hound.js";
+import { HoundError, append, appendTo, continueFile, info, read, record, repairFile, write } from "../hound.js";
 
 const SPEC = { sampleRate: 8000, channels: 2, bitsPerSample: 16 };
 const COMMAND = new URL("../command.js", import.meta.url).pathname;
@@ -189,6 +189,44 @@ test("a file is appended to, by what append rejects elsewhere", async () => {
     await fails(appendTo(take), code);
     await fails(append(bytes, block(2)), code);
     assert.deepEqual(await content(), bytes);
+  }
+});
+
+test("a recording is continued, whatever a kill or a loss of power has left of it", async () => {
+  const whole = fileOf([block(1), block(2)]), sizes = (riff, data, file = whole) => {
+    const changed = Buffer.from(file);
+    changed.writeUInt32LE(riff, 4);
+    changed.writeUInt32LE(data, 40);
+    return changed;
+  };
+  const begun = sizes(0, 0, fileOf([]));
+  for (const [left, kept] of [
+    [whole, [block(1), block(2)]],
+    [sizes(36, 0), [block(1), block(2)]],
+    [sizes(48, 12).subarray(0, 63), [block(1), block(2).subarray(0, 2)]], // The header counts less than there is.
+    [whole.subarray(0, 60), [block(1), block(2).subarray(0, 2)]], // It counts more.
+    [sizes(49, 13).subarray(0, 57), [block(1)]], // It counts a part of a frame.
+    ...[0, 1, 20, 40, 43, 44].map((length) => [begun.subarray(0, length), []]),
+    [undefined, []],
+  ]) {
+    for (const durable of [false, true]) {
+      await fs.rm(take, { force: true });
+      if (left) await fs.writeFile(take, left);
+      const recorder = await continueFile(take, SPEC, { durable });
+      await recorder.write(block(3));
+      await recorder.close();
+      assert.ok((await content()).equals(fileOf([...kept, block(3)])), `${left?.length} bytes`);
+    }
+  }
+  const chunk = Buffer.from("LIST\x04\0\0\0INFO", "latin1"), other = { ...SPEC, sampleRate: 44100 };
+  for (const [left, code, spec = SPEC] of [
+    [whole.subarray(0, 43), "ENDED"], [begun.subarray(0, 43), "ENDED", other], [Buffer.from("text"), "NO_RIFF_TAG"],
+    [begun, "OTHER_FORMAT", other], [whole.subarray(0, 60), "OTHER_FORMAT", { ...SPEC, channels: 1 }],
+    [Buffer.concat([whole, chunk]), "NEEDS_OVERWRITE"],
+  ]) {
+    await fs.writeFile(take, left);
+    await fails(continueFile(take, spec), code);
+    assert.ok((await content()).equals(left), code);
   }
 });
 
