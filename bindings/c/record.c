@@ -25,6 +25,16 @@ static unsigned long samples_in(uint32_t bytes) { return bytes / file.recorder.b
 static unsigned long recorded(void) { return before + samples_in(file.recorder.data_length); }
 static size_t least(uint64_t a, uint64_t b) { return (size_t)(a < b ? a : b); }
 
+/* The number that an argument is; another word, as one with a unit, is an error that names it. */
+static uint64_t number_of(const char *name, const char *word, uint32_t most) {
+    static char why[160];
+    char *end = NULL;
+    uint64_t number = *word >= '0' && *word <= '9' ? strtoull(word, &end, 10) : 0;
+    if (number > 0 && number <= most && !*end) return number;
+    snprintf(why, sizeof why, "%s is %.40s, and not a whole number from 1 to %lu", name, word, (unsigned long)most);
+    return stop(why), 0;
+}
+
 /* What a call returned; why it failed is said, if the system did. */
 static int32_t said(int32_t code) {
     if (code < 0) is_whole = 0;
@@ -60,8 +70,10 @@ int main(int argc, char **argv) {
     char room[HOUND_FILE_SENTENCE];
     hound_repair_t found;
     static const char usage[] = "usage: record FILE RATE CHANNELS BITS FRAMES [--durable] [--append | --overwrite]"
-                                " [--split FRAMES]";
-    uint64_t numbers[4] = {0}, most[4] = {UINT32_MAX, UINT16_MAX, 32, UINT32_MAX}, split = 0, has_room;
+                                " [--split FRAMES]\nRATE is in Hz, and no number has a unit";
+    static const char *const names[4] = {"RATE", "CHANNELS", "BITS", "FRAMES"};
+    static const uint32_t most[4] = {UINT32_MAX, UINT16_MAX, 32, UINT32_MAX};
+    uint64_t numbers[4] = {0}, split = 0, has_room;
     int is_durable = 0, is_appended = 0, is_overwritten = 0, is_split = 0, is_taken = 0, fault;
     hound_file_arguments(&argc, &argv);
     for (int i = 2; i < argc; i++) {
@@ -69,11 +81,12 @@ int main(int argc, char **argv) {
         else if (i >= 6 && !strcmp(argv[i], "--append")) is_appended = 1;
         else if (i >= 6 && !strcmp(argv[i], "--overwrite")) is_overwritten = 1;
         else if (i >= 6 && i + 1 < argc && !strcmp(argv[i], "--split"))
-            is_split = 1, split = strtoull(argv[++i], NULL, 10);
-        else if (i >= 6 || (numbers[i - 2] = strtoull(argv[i], NULL, 10)) > most[i - 2]) argc = 0;
+            is_split = 1, split = number_of("--split", argv[++i], UINT32_MAX);
+        else if (i >= 6) stop(usage);
+        else numbers[i - 2] = number_of(names[i - 2], argv[i], most[i - 2]);
     }
     uint64_t every = numbers[3], left = every; /* until the next checkpoint */
-    if (argc < 6 || every == 0 || (is_appended && (is_overwritten || is_split)) || is_split != (split > 0)) stop(usage);
+    if (argc < 6 || (is_appended && (is_overwritten || is_split))) stop(usage);
     if (is_split && is_there(next_name(argv[1]))) stop("the second file exists: remove or rename it");
     hound_spec spec = {(uint32_t)numbers[0], (uint16_t)numbers[1], (uint16_t)numbers[2],
                        (uint16_t)((numbers[2] + 7) / 8), HOUND_INT};

@@ -93,6 +93,8 @@ WRONG = {
     "a part has a frame more": ("? left : most - held;", "? left : most - held + 1;"),
     "the samples of parts before aren't counted": ("parts++, before = held;", "parts++;"),
     "the name of the second part isn't looked at first": ("if (is_split && is_there(", "if (0 && is_there("),
+    "a number ends where its digits do": (" && !*end", ""),
+    "a number may be too large": (" && number <= most", ""),
     "chunks after the data are overwritten": ("found, HOUND_MEND) :", "found, HOUND_MEND | HOUND_OVERWRITE) :"),
 }
 
@@ -413,9 +415,19 @@ def in_parts(record, path):
             os.remove(name)
     run([record, path, *SHAPE, "--split", "500"])
     expect("there is an empty part", counted_in_parts(path) == ([500, 500], DATA))
-    for words in [], ["0"], ["5", "--append"]:
-        ran = run([record, path, *SHAPE, "--split", *words])
-        expect("a wrong number is taken", is_rejected(ran, b"usage"))
+    for words in [], ["5", "--append"]:
+        expect("the usage isn't said", is_rejected(run([record, path, *SHAPE, "--split", *words]), b"usage"))
+
+
+def wrong_numbers(record, path):
+    """Words with a unit, as hound-wav takes them, and others that are no numbers: each is named."""
+    for place, name in enumerate(("RATE", "CHANNELS", "BITS", "FRAMES", "--split")):
+        for word in "0", "-1", "+1", " 1", "", "1.5", "2GiB", "1h", "44.1k", "5x", "4294967296", "18446744073709551617":
+            words = [*SHAPE, "--split", "300"]
+            words[place if place < 4 else 5] = word
+            said = f"{name} is {word}, and not a whole number".encode()
+            expect(f"{word} is taken for {name}", is_rejected(run([record, path, *words]), said))
+            expect("a file is begun", not os.path.exists(path))
 
 
 def part_that_exists(record, path):
@@ -455,6 +467,7 @@ def part_that_has_no_room(record, path):
 
 CHECKS = [
     in_parts,
+    wrong_numbers,
     part_that_exists,
     part_that_can_t_be_ended,
     part_that_has_no_room,
