@@ -112,6 +112,15 @@ static inline int hound_file_find(int descriptor, uint64_t *length, int *is_regu
     *length = (uint64_t)about.st_size, *is_regular = (about.st_mode & _S_IFMT) == _S_IFREG;
     return 0;
 }
+/* Whether a new file can be made at a path: 0, or -1 and errno. It isn't known whether its folder can be written. */
+static inline int hound_file_check_new(const char *path) {
+    wchar_t room[HOUND_FILE_LETTERS];
+    const wchar_t *wide = hound_file_wide(path, room), *name = wide ? wcsrchr(wide, L'\\') : NULL;
+    if (!name) return -1;
+    if (wcslen(name + 1) > 255) return errno = ENAMETOOLONG, -1;
+    if (GetFileAttributesW(wide) != INVALID_FILE_ATTRIBUTES) return errno = EEXIST, -1;
+    return GetLastError() == ERROR_FILE_NOT_FOUND ? 0 : (errno = ENOENT, -1);
+}
 /* Nobody renames a file that is open. */
 static inline int hound_file_is_at(int descriptor, const char *path) { return (void)descriptor, (void)path, 1; }
 /* Locks one byte that no file has, since others can't read what is locked. */
@@ -190,6 +199,21 @@ static inline int hound_file_find(int descriptor, uint64_t *length, int *is_regu
     if (fstat(descriptor, &about) < 0) return -1;
     *length = (uint64_t)about.st_size, *is_regular = S_ISREG(about.st_mode);
     return 0;
+}
+/* Whether a new file can be made at a path: 0, or -1 and errno, where one is there, also a link to none (EEXIST), its
+   name is too long, or its folder can't be written. */
+static inline int hound_file_check_new(const char *path) {
+    struct stat about;
+    char *folder, *end;
+    int result, why;
+    if (lstat(path, &about) == 0) return errno = EEXIST, -1;
+    if (errno != ENOENT || !(folder = (char *)malloc(strlen(path) + 1))) return -1;
+    end = strrchr(strcpy(folder, path), '/');
+    if (end) end[end == folder] = 0; /* The folder of /take.wav is the slash. */
+    result = access(end ? folder : ".", W_OK | X_OK), why = errno;
+    free(folder);
+    errno = why;
+    return result;
 }
 /* Whether a file that is open is the one at a path, and none was renamed to it: 1 or 0, or -1 and errno. */
 static inline int hound_file_is_at(int descriptor, const char *path) {
@@ -543,7 +567,8 @@ static inline int32_t hound_file_close(hound_file *file) {
 }
 
 /* The name of a further file of a recording, as take-002.wav is the second one of take.wav, in a room of so many bytes:
-   0, or -1 where it is too small. */
+   0, or -1 where it is too small. Whether a file can be made there hound_file_check_new says, before the recording
+   begins. */
 static inline int hound_file_part(const char *path, unsigned number, char *out, size_t size) {
     const char *name = path, *ending, *at;
     int length;

@@ -49,11 +49,13 @@ static const char *next_name(const char *path) {
     return name;
 }
 
-/* Whether a file is at a path. */
-static int is_there(const char *path) {
-    int descriptor = hound_file_open_at(path, O_RDONLY);
-    if (descriptor >= 0) hound_file_close_at(descriptor);
-    return descriptor >= 0;
+/* Ends the program where the second file couldn't be made. */
+static void check_second(const char *path) {
+    char why[160];
+    if (hound_file_check_new(next_name(path)) == 0) return;
+    if (errno == EEXIST) stop("the second file exists: remove or rename it");
+    snprintf(why, sizeof why, "the second file, whose name ends in -002, can't be made: %s", strerror(errno));
+    stop(why);
 }
 
 /* Continues in the next file. */
@@ -87,7 +89,7 @@ int main(int argc, char **argv) {
     }
     uint64_t every = numbers[3], left = every; /* until the next checkpoint */
     if (argc < 6 || (is_appended && (is_overwritten || is_split))) stop(usage);
-    if (is_split && is_there(next_name(argv[1]))) stop("the second file exists: remove or rename it");
+    if (is_split) check_second(argv[1]);
     hound_spec spec = {(uint32_t)numbers[0], (uint16_t)numbers[1], (uint16_t)numbers[2],
                        (uint16_t)((numbers[2] + 7) / 8), HOUND_INT};
     int32_t code = is_appended ? hound_file_continue(&file, argv[1], &spec, is_durable, &found)

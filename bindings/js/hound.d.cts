@@ -228,6 +228,7 @@ export function findDamageInFile(path: string | URL): Promise<Damage>;
  *
  * With `split` a file has at most so many frames (`Infinity`: as many as have room), and a block that has no room is
  * written to a next one, whole: after take.wav to take-002.wav, take-003.wav and so on, each of which mustn't be there.
+ * That the second one can be made is looked at before anything is recorded.
  * The next file is made and begun before the one before it is ended. Where that fails `write` is the error, and the
  * recorder is as before. A block that is larger than a file may be is written as several.
  */
@@ -267,7 +268,7 @@ export interface Recorder {
   /** How many frames have room after those that are written, for a program that continues in another file; with
       `split`, how many this file still takes. */
   readonly framesLeft: number;
-  /** With `split`, the files of the recording, the last of which is written; else none. */
+  /** With `split`, the files of the recording, by their absolute paths, the last of which is written; else none. */
   readonly paths: (string | URL)[];
   /** Writes whole frames, as they are at the call. Floats are scaled where the file has integers. */
   write(samples: Samples, options?: Clipping): Promise<void>;

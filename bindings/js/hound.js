@@ -4,7 +4,7 @@
 // typed array, or an array of one for each channel. No call changes its arguments. A file must not change before the
 // promise of a call over it is settled; samples may.
 import { BLOCK_LENGTH, USUAL_START, blocksOf, formOf } from "./guess.js";
-import { module, nodeFiles } from "./module.js";
+import { module, nodeFiles, nodePaths } from "./module.js";
 
 // Each error, its code in hound.h without the sign, and its sentence there.
 const ERRORS = {
@@ -1121,10 +1121,15 @@ function pathOfPart(path, number) {
   return `${stem}-${String(number).padStart(3, "0")}${ending}`;
 }
 
-/** An error where a file is at a path, also a link to none. */
-async function checkPart({ lstat }, path) {
-  const isThere = await lstat(path).then(() => true, ({ code }) => code !== "ENOENT");
+/** An error where no new file can be made at a path: one is there, also a link to none, its name is too long, or its
+    folder can't be written. */
+async function checkPart({ access, constants, lstat }, path) {
+  const isThere = await lstat(path).then(() => true, (error) => {
+    if (error.code !== "ENOENT") throw error;
+  });
   if (isThere) throw Object.assign(new Error(`EEXIST: file already exists, '${path}'`), { code: "EEXIST", path });
+  const folder = path instanceof URL ? new URL(".", path) : (await nodePaths()).dirname(path);
+  await access(folder, constants.W_OK | constants.X_OK);
 }
 
 /**
@@ -1132,12 +1137,13 @@ async function checkPart({ lstat }, path) {
  *
  * With `split` a file has at most so many frames, and never more than have room. The recording of take.wav continues in
  * take-002.wav, take-003.wav and so on, each of which mustn't be there: of the second one that is looked at first, of
- * each before the file before it is ended.
+ * each before the file before it is ended. They stay in one folder, wherever the program changes to.
  */
 export async function record(path, format, { split, ...how } = {}) {
   if (split === undefined) return recordOne(path, format, how);
   if (split !== Infinity) integer("split", split, 1, Number.MAX_SAFE_INTEGER);
-  const fs = await files(), first = path instanceof URL ? path : String(path), remove = (name) => fs.unlink(name);
+  const fs = await files(), first = path instanceof URL ? path : (await nodePaths()).resolve(String(path));
+  const remove = (name) => fs.unlink(name);
   const begin = async (name) => {
     await checkPart(fs, name);
     return recordOne(name, format, { ...how, exclusive: true }).catch(async (error) => {
@@ -1146,7 +1152,7 @@ export async function record(path, format, { split, ...how } = {}) {
     });
   };
   await checkPart(fs, pathOfPart(first, 2));
-  return Recorder.split(await recordOne(path, format, how), split, first, { begin, remove });
+  return Recorder.split(await recordOne(first, format, how), split, first, { begin, remove });
 }
 
 /** The recorder of a new file of this spec. */

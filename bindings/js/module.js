@@ -1,6 +1,7 @@
 // What Node has, and the library's WebAssembly module: beside this file in a package, and in bindings/lib in a clone.
 // A bundler for browsers takes browser.js in the place of this file.
 export const nodeFiles = async () => (await import(/* webpackIgnore: true */ "node:fs")).default;
+export const nodePaths = async () => (await import(/* webpackIgnore: true */ "node:path")).default;
 
 async function load(url) {
   if (url.protocol === "file:") return (await nodeFiles()).promises.readFile(url);

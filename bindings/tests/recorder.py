@@ -92,7 +92,9 @@ WRONG = {
     "a part that isn't recorded to stays": ("give_up(&next, path, 1, code)", "give_up(&next, path, 0, code)"),
     "a part has a frame more": ("? left : most - held;", "? left : most - held + 1;"),
     "the samples of parts before aren't counted": ("parts++, before = held;", "parts++;"),
-    "the name of the second part isn't looked at first": ("if (is_split && is_there(", "if (0 && is_there("),
+    "the name of the second part isn't looked at first": ("if (is_split) check_second(argv[1]);", ""),
+    "a name that is too long isn't noticed": ("if (errno != ENOENT || !(folder", "if (!(folder"),
+    "the folder of the second part isn't looked at": ('result = access(end ? folder : ".", W_OK | X_OK)', "result = 0"),
     "a number ends where its digits do": (" && !*end", ""),
     "a number may be too large": (" && number <= most", ""),
     "chunks after the data are overwritten": ("found, HOUND_MEND) :", "found, HOUND_MEND | HOUND_OVERWRITE) :"),
@@ -444,6 +446,27 @@ def part_that_exists(record, path):
         expect("it began", bool(counts) or not os.listdir(os.path.dirname(path)))
 
 
+def second_part_that_can_t_be_made(record, path):
+    """Its name has no room, or its folder can't be written: that is said before the recording begins."""
+    home, said = os.path.split(path)[0], b"the second file, whose name ends in -002, can't be made: "
+    name = os.path.join(home, "a" * 248 + ".wav")
+    ran = run([record, name, *SHAPE, "--split", "300"])
+    expect("a long name isn't said", is_rejected(ran, said + b"File name too long"))
+    expect("it is recorded", not os.path.exists(name))
+    ran = run([record, os.path.basename(name)[4:], *SHAPE, "--split", "300"], cwd=home)
+    expect("a name that has room is rejected", ran.returncode == 0)
+    if os.geteuid() != 0:
+        return
+    run([record, path, *SHAPE])
+    os.chmod(path, 0o666)
+    os.chmod(home, 0o555)
+    before = contents_of(path)
+    nobody = ["setpriv", "--reuid=65534", "--regid=65534", "--clear-groups", record, path, *SHAPE, "--overwrite"]
+    expect("a folder isn't looked at", is_rejected(run([*nobody, "--split", "300"]), said + b"Permission denied"))
+    expect("a recording is emptied that can't go on", contents_of(path) == before)
+    expect("one file isn't recorded", run(nobody).returncode == 0)
+
+
 def part_that_can_t_be_ended(record, path):
     """The last write to the first part fails, in its last checkpoint: the block after it is lost, and the next one
     isn't."""
@@ -469,6 +492,7 @@ CHECKS = [
     in_parts,
     wrong_numbers,
     part_that_exists,
+    second_part_that_can_t_be_made,
     part_that_can_t_be_ended,
     part_that_has_no_room,
     exists,

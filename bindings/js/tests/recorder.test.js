@@ -146,6 +146,51 @@ test("a next file that is there is an error, before the file before it is ended"
   await removeParts();
 });
 
+test("a second file that can't be made is an error before anything is recorded", async () => {
+  const name = (length) => path.join(folder, "a".repeat(length - 4) + ".wav");
+  for (const where of [name(252), new URL(`file://${name(252)}`)]) {
+    await assert.rejects(record(where, SPEC, { split: 4 }), { code: "ENAMETOOLONG" });
+  }
+  await (await record(name(251), SPEC, { split: 4 })).close();
+  await fs.rm(name(251));
+  const closed = path.join(folder, "closed"), there = path.join(closed, "take.wav");
+  await fs.mkdir(closed);
+  await fs.writeFile(there, "mine");
+  await fs.chmod(there, 0o666);
+  await fs.chmod(folder, 0o755);
+  await fs.chmod(closed, 0o555);
+  const program = `
+    import fs from "node:fs";
+    import { info, record } from ${JSON.stringify(new URL("../hound.js", import.meta.url))};
+    await info(new Uint8Array(0)).catch(() => {}); // The module is there before the program becomes another user.
+    if (process.getuid() === 0) process.setuid(65534);
+    for (const how of [{ split: 4 }, {}]) {
+      const code = await record("${there}", ${JSON.stringify(SPEC)}, how).then((one) => one.close(), ({ code }) => code);
+      console.log(code, fs.readFileSync("${there}").length);
+    }`;
+  const { stdout } = spawnSync(process.execPath, ["--input-type=module", "-e", program], { encoding: "utf8" });
+  assert.equal(stdout, "EACCES 4\nundefined 44\n");
+  await fs.rm(closed, { recursive: true });
+});
+
+test("all files of a recording are in one folder, whatever the program's folder is then", async () => {
+  const before = process.cwd(), others = ["a", "b"].map((name) => path.join(folder, name));
+  for (const other of others) await fs.mkdir(other);
+  try {
+    process.chdir(others[0]);
+    const recorder = await record("take.wav", SPEC, { split: 3 });
+    await recorder.write(block(1));
+    process.chdir(others[1]);
+    await recorder.write(block(2));
+    await recorder.close();
+    assert.deepEqual(recorder.paths, ["take.wav", "take-002.wav"].map((name) => path.join(others[0], name)));
+  } finally {
+    process.chdir(before);
+  }
+  assert.deepEqual(await Promise.all(others.map((other) => fs.readdir(other))), [["take-002.wav", "take.wav"], []]);
+  for (const other of others) await fs.rm(other, { recursive: true });
+});
+
 test("blocks with noise are a file with noise", async () => {
   const samples = Float64Array.from({ length: 200 }, (_, i) => i / 300), options = { dither: true, seed: 9 };
   const recorder = await record(take, SPEC);
