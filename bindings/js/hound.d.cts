@@ -230,7 +230,9 @@ export function findDamageInFile(path: string | URL): Promise<Damage>;
  * written to a next one, whole: after take.wav to take-002.wav, take-003.wav and so on, each of which mustn't be there.
  * That the second one can be made is looked at before anything is recorded.
  * The next file is made and begun before the one before it is ended. Where that fails `write` is the error, and the
- * recorder is as before. A block that is larger than a file may be is written as several.
+ * recorder is as before. A block that is larger than a file may be is written as several: after an error those before
+ * the failed one are in their files, and the error of such a block has their frames in `framesWritten`: write only the
+ * others again.
  */
 export function record(
   path: string | URL,
@@ -256,9 +258,10 @@ export function continueFile(
 
 /**
  * A file that is recorded. Calls are performed one after the other, in the order in which they are made. After an error
- * a block is in the file only if its `write` was fulfilled, and the next call makes a checkpoint first; after a sync
- * that failed each call is an error. Whenever the program is killed, the header counts only samples that were written,
- * at least those of the last checkpoint, and a repair finds the others.
+ * a block is in the file only if its `write` was fulfilled (or in part, if it is larger than a file of `split` may be),
+ * and the next call makes a checkpoint first; after a sync that failed each call is an error. Whenever the program is
+ * killed, the header counts only samples that were written, at least those of the last checkpoint, and a repair finds
+ * the others.
  *
  * A block of up to 64 KiB is written before `write` returns, unless an earlier call is under way. Larger blocks and
  * syncs go to other threads, and so do all blocks of a file after one that took 20 milliseconds.
@@ -268,6 +271,8 @@ export interface Recorder {
   /** How many frames have room after those that are written, for a program that continues in another file; with
       `split`, how many this file still takes. */
   readonly framesLeft: number;
+  /** The number of the next frame, of all files with `split`: so many are written. */
+  tell(): number;
   /** With `split`, the files of the recording, by their absolute paths, the last of which is written; else none. */
   readonly paths: (string | URL)[];
   /** Writes whole frames, as they are at the call. Floats are scaled where the file has integers. */

@@ -904,6 +904,7 @@ class Recorder {
   #closing;
   #most; // How many frames a file has at most, where the recording continues in a next one.
   #paths = []; // The files of such a recording.
+  #before = 0; // How many frames are in those before the last one.
   #next; // What makes the next one, and removes it.
 
   constructor(handle, durable, { recorder, spec }) {
@@ -940,9 +941,17 @@ class Recorder {
   /** How many frames have room after those that are written: with `split`, how many this file still takes. */
   get framesLeft() {
     const left = Number(this.#machine.call("recorder_frames_left", shared.at(MACHINE)));
-    if (this.#most === undefined) return left;
-    const held = this.#machine.view.getUint32(LAYOUT.recorder.dataLength, true) / this.#frameBytes;
-    return Math.min(left, Math.max(this.#most - held, 0));
+    return this.#most === undefined ? left : Math.min(left, Math.max(this.#most - this.#held, 0));
+  }
+
+  /** How many frames the last file has. */
+  get #held() {
+    return this.#machine.view.getUint32(LAYOUT.recorder.dataLength, true) / this.#frameBytes;
+  }
+
+  /** The number of the next frame; with `split`, in all files. */
+  tell() {
+    return this.#before + this.#held;
   }
 
   /** Writes whole frames after the last ones. After a write that failed it makes a checkpoint first. The seed of
@@ -967,8 +976,17 @@ class Recorder {
   }
 
   /** Writes whole frames, in a next file where they have no room in this one. A block that is larger than a file may be
-      is written as several. */
+      is written as several; then an error says how many of its frames are in their files. */
   async #writeInFiles(data) {
+    const before = this.tell();
+    try {
+      await this.#writeByFiles(data);
+    } catch (error) {
+      throw Object.assign(error, { framesWritten: this.tell() - before });
+    }
+  }
+
+  async #writeByFiles(data) {
     const { channels } = this.spec, size = this.#frameBytes, frames = data.length / size;
     for (let first = 0; first === 0 || first < frames;) {
       const room = frames <= this.#most ? frames : this.framesLeft || this.#most;
@@ -990,6 +1008,7 @@ class Recorder {
       throw error;
     }
     const older = this.#handle;
+    this.#before = this.tell();
     [this.#handle, this.#machine] = [following.#handle, following.#machine];
     this.#paths.push(path);
     await older.close();

@@ -146,6 +146,27 @@ test("a next file that is there is an error, before the file before it is ended"
   await removeParts();
 });
 
+test("of a block that is larger than a file may be, an error says how much is in", async () => {
+  const some = (first, last) => Int16Array.from({ length: 2 * (last - first) }, (_, i) => 2 * first + i);
+  const recorder = await record(take, SPEC, { split: 4 });
+  assert.equal(recorder.tell(), 0);
+  await fs.writeFile(partAt(3), "in the way");
+  await recorder.write(some(0, 3));
+  for (const [last, written] of [[14, 5], [13, 0]]) { // One frame fills the first file, and four the second one.
+    const first = recorder.tell();
+    await assert.rejects(recorder.write(some(first, last)), { code: "EEXIST", framesWritten: written });
+    assert.equal(recorder.tell(), first + written);
+  }
+  await fs.rm(partAt(3));
+  await recorder.write(some(recorder.tell(), 14));
+  await recorder.close();
+  assert.deepEqual([recorder.tell(), recorder.paths.length], [14, 4]);
+  for (const [i, file] of (await partsOf(4)).entries()) {
+    assert.deepEqual(file, fileOf([some(4 * i, Math.min(4 * i + 4, 14))]));
+  }
+  await removeParts();
+});
+
 test("a second file that can't be made is an error before anything is recorded", async () => {
   const name = (length) => path.join(folder, "a".repeat(length - 4) + ".wav");
   for (const where of [name(252), new URL(`file://${name(252)}`)]) {
@@ -165,7 +186,8 @@ test("a second file that can't be made is an error before anything is recorded",
     await info(new Uint8Array(0)).catch(() => {}); // The module is there before the program becomes another user.
     if (process.getuid() === 0) process.setuid(65534);
     for (const how of [{ split: 4 }, {}]) {
-      const code = await record("${there}", ${JSON.stringify(SPEC)}, how).then((one) => one.close(), ({ code }) => code);
+      const made = record("${there}", ${JSON.stringify(SPEC)}, how);
+      const code = await made.then(() => {}, (error) => error.code);
       console.log(code, fs.readFileSync("${there}").length);
     }`;
   const { stdout } = spawnSync(process.execPath, ["--input-type=module", "-e", program], { encoding: "utf8" });
