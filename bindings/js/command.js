@@ -52,8 +52,14 @@ async function sayWhatIsCounted(path, { state, dataStart }) {
   }
 }
 
+/** An error where no regular file is at a path. */
+async function checkFile(path) {
+  const found = await stat(path);
+  if (found.isDirectory()) throw new Error("it is a folder, and files are named here");
+  if (!found.isFile()) throw new Error("this is no regular file");
+}
+
 async function look(path, { details }) {
-  if ((await stat(path)).isDirectory()) throw new Error("it is a folder, and files are named here");
   const found = await findDamageInFile(path);
   await sayWhatIsCounted(path, found);
   return text(found, "counts", details);
@@ -108,6 +114,7 @@ async function main([command, ...words]) {
   let status = 0;
   for (const path of words) {
     try {
+      await checkFile(path);
       console.log(`${path}: ${await work(path, how)}`);
     } catch (error) {
       console.error(`${path}: ${error.message}`);

@@ -16,7 +16,7 @@ const FUNCTIONS = [
   "record", "repair", "repairFile", "write",
 ];
 for (const name of FUNCTIONS) {
-  exports[name] = (...given) => loaded ? loaded[name](...given) : after(name, given.map(copied));
+  exports[name] = async (...given) => loaded ? loaded[name](...given) : after(name, given.map(copied));
 }
 
 /** The errors of the module, which isn't there yet, are of this class, too. */

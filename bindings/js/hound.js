@@ -232,11 +232,34 @@ function integer(name, value, low, high) {
   return value;
 }
 
+const ENCODING_OPTIONS = ["onClipped", "dither", "seed"];
+const FORMAT_OPTIONS = ["sampleRate", "channels", "bitsPerSample", "bytesPerSample", "isFloat"];
+// What else is in what calls report of a file, which is a format, too.
+const REPORTED = ["frames", "dataStart", "state", "counted", "leftOver", "dataLength", "file"];
+
+/** Options, which have these names. Another one is an error, because one that is misspelled, or is in another argument
+    than its own, would be ignored: so a file would be emptied that `exclusive` was to keep. */
+function checkedOptions(options, names, ignored = []) {
+  const other = Object.keys(options).find((name) => !names.includes(name) && !ignored.includes(name));
+  if (other !== undefined) throw new TypeError(`${other} is no option of this argument, which has ${names.join(", ")}`);
+  return options;
+}
+
 function typeNamed(name) {
   if (!Object.hasOwn(TYPES, name)) {
     throw new TypeError(`type is ${String(name)}, and not one of ${Object.keys(TYPES).join(", ")}`);
   }
   return TYPES[name];
+}
+
+/** An error where the memory of an array was transferred, as to another thread: it has no elements since then. */
+function checkAttached(name, { length, buffer }) {
+  if (length > 0) return;
+  try {
+    new Uint8Array(buffer);
+  } catch {
+    throw new TypeError(`${name} is detached: its memory was transferred`);
+  }
 }
 
 function typeOf(samples) {
@@ -246,6 +269,7 @@ function typeOf(samples) {
       "samples is no Int8Array, Int16Array, Int32Array, Float32Array or Float64Array, and no array of these",
     );
   }
+  checkAttached("samples", samples);
   return type;
 }
 
@@ -306,8 +330,10 @@ function checkChannels(given, channels) {
 }
 
 function fileOf(file) {
+  if (file instanceof Blob) return file;
+  if (file instanceof Uint8Array) checkAttached("file", file);
+  if (file instanceof Uint8Array) return file;
   if (file instanceof ArrayBuffer) return new Uint8Array(file);
-  if (file instanceof Uint8Array || file instanceof Blob) return file;
   throw new TypeError("file is no Uint8Array, ArrayBuffer or Blob");
 }
 
@@ -426,8 +452,8 @@ function walkOver(file, toEnd) {
 }
 
 /** What the header of a file says. The data may be missing. With `toEnd` the frames are all whole ones to its end. */
-export async function info(file, { toEnd = false } = {}) {
-  const given = fileOf(file);
+export async function info(file, options = {}) {
+  const given = fileOf(file), { toEnd = false } = checkedOptions(options, ["toEnd"]);
   await ready();
   const { spec, samples, dataStart } = await walkOver(given, toEnd), { channels, bytesPerSample } = spec;
   shared.putSpec(spec);
@@ -559,7 +585,9 @@ function encodeBlock(given, spec, first, count, out, noise) {
  * divided by 2^(bits - 1). Of a file that holds fewer frames than its header counts these are read, and a read that
  * starts after them is an error. With `toEnd` the file is read as a stream, whose header may count any length.
  */
-export async function read(file, { start = 0, frames = Infinity, type, planar = false, toEnd = false } = {}) {
+export async function read(file, options = {}) {
+  const { start = 0, frames = Infinity, type, planar = false, toEnd = false } =
+    checkedOptions(options, ["start", "frames", "type", "planar", "toEnd"]);
   const given = fileOf(file), length = sizeOf(given);
   integer("start", start, 0, Number.MAX_SAFE_INTEGER);
   if (frames !== Infinity) integer("frames", frames, 0, Number.MAX_SAFE_INTEGER);
@@ -618,7 +646,9 @@ function warn(clipped) {
 }
 
 /** The spec of a file of samples of a type. Floats of other bits, or with `isFloat: false`, are stored as integers. */
-function specFor(type, { sampleRate, channels = 1, bitsPerSample, bytesPerSample = 0, isFloat }) {
+function specFor(type, format) {
+  const { sampleRate, channels = 1, bitsPerSample, bytesPerSample = 0, isFloat } =
+    checkedOptions(format, FORMAT_OPTIONS, REPORTED);
   const bits = integer("bitsPerSample", bitsPerSample ?? type.bits, 1, 0xffff);
   if (isFloat !== undefined && typeof isFloat !== "boolean") {
     throw new TypeError(`isFloat is ${String(isFloat)}, and not a boolean`);
@@ -694,8 +724,8 @@ export async function guessStart(file) {
  * rate, which can't be guessed, and its `skip`. It is null where nothing is predictable, as silence and noise. Without
  * `skip` they begin where `guessStart` finds it, or near the end of a header of the usual length.
  */
-export async function guess(file, { skip } = {}) {
-  const given = fileOf(file), size = sizeOf(given);
+export async function guess(file, options = {}) {
+  const given = fileOf(file), size = sizeOf(given), { skip } = checkedOptions(options, ["skip"]);
   const known = skip === undefined ? await guessStart(given) : integer("skip", skip, 0, size);
   await ready();
   const isKnown = skip !== undefined || known > 0, start = isKnown ? known : USUAL_START;
@@ -758,7 +788,8 @@ const modeOf = ({ toEnd = false, canonical = false }) => toEnd ? REPAIR_TO_END :
  * for samples, also what looks like chunks. Where the header is lost, all that follows the first `skip` bytes is taken
  * for samples, and a header as `like` says is put before it.
  */
-export async function repair(file, { like, skip, ...how } = {}) {
+export async function repair(file, options = {}) {
+  const { like, skip, ...how } = checkedOptions(options, ["like", "skip", "toEnd", "canonical"]);
   const whole = fileOf(file), spec = like && specFor({}, like);
   const start = skip === undefined ? like && await guessStart(whole) : integer("skip", skip, 0, sizeOf(whole));
   await ready();
@@ -853,11 +884,23 @@ async function files() {
   return node.promises;
 }
 
+/** Opens a file by flags whose names these are. A FIFO isn't waited for, but found by `sizeOn`. */
+function openAt({ constants, open }, path, ...flags) {
+  return open(path, ["O_NONBLOCK", ...flags].reduce((sum, name) => sum | (constants[name] ?? 0), 0));
+}
+
+/** How long a file of Node is. What isn't a regular file is an error, because no effect could be performed on it. */
+async function sizeOn(handle, path) {
+  const found = await handle.stat();
+  if (found.isFile()) return found.size;
+  throw Object.assign(new Error(`ESPIPE: this is no regular file, '${path}'`), { code: "ESPIPE", path });
+}
+
 /** What a repairer of this mode finds in a file of Node, which it repairs. Each step is synced. */
-async function repairAt(path, flags, mode) {
-  const { open } = await files(), handle = await open(path, flags);
+async function repairAt(path, flag, mode) {
+  const handle = await openAt(await files(), path, flag);
   try {
-    const { size } = await handle.stat();
+    const size = await sizeOn(handle, path);
     const { report } = await repairBy(size, mode, (effect) => performOn(handle, true, effect));
     return report;
   } finally {
@@ -866,13 +909,13 @@ async function repairAt(path, flags, mode) {
 }
 
 /** Repairs a file at a path in place, in Node, and returns how it was found. */
-export async function repairFile(path, how = {}) {
-  return repairAt(path, "r+", modeOf(how));
+export async function repairFile(path, options = {}) {
+  return repairAt(path, "O_RDWR", modeOf(checkedOptions(options, ["toEnd", "canonical"])));
 }
 
 /** Reports what `repairFile` would find, or fails as it would; the file may be read-only. */
 export async function findDamageInFile(path) {
-  return repairAt(path, "r", FIND_DAMAGE);
+  return repairAt(path, "O_RDONLY", FIND_DAMAGE);
 }
 
 /** The recorder that appends to a file of so many bytes, and its spec, which may have to continue another one. */
@@ -956,8 +999,9 @@ class Recorder {
 
   /** Writes whole frames after the last ones. After a write that failed it makes a checkpoint first. The seed of
       `dither` is that of the first block that has it. */
-  async write(samples, { onClipped = warn, dither, seed } = {}) {
+  async write(samples, options = {}) {
     this.#checkOpen();
+    const { onClipped = warn, dither, seed } = checkedOptions(options, ENCODING_OPTIONS);
     const given = taken(samples), first = noiseOf({ dither, seed }), room = this.#room;
     checkChannels(given.channels, this.spec.channels);
     this.#room = undefined;
@@ -1086,10 +1130,11 @@ class Recorder {
   }
 }
 
-/** Opens a file, and closes it again if it can't be recorded to. */
+/** Opens a file by these flags, and closes it again if it can't be recorded to. */
 async function recorderOf(path, flags, durable, prepare) {
-  const fs = await files(), handle = await fs.open(path, flags);
+  const fs = await files(), handle = await openAt(fs, path, "O_RDWR", ...flags);
   try {
+    await sizeOn(handle, path);
     return await Recorder.begin(handle, durable, await prepare(handle, () => durable && syncFolder(fs, path)));
   } catch (error) {
     await handle.close();
@@ -1158,7 +1203,8 @@ async function checkPart({ access, constants, lstat }, path) {
  * take-002.wav, take-003.wav and so on, each of which mustn't be there: of the second one that is looked at first, of
  * each before the file before it is ended. They stay in one folder, wherever the program changes to.
  */
-export async function record(path, format, { split, ...how } = {}) {
+export async function record(path, format, options = {}) {
+  const { split, ...how } = checkedOptions(options, ["durable", "exclusive", "split"]);
   if (split === undefined) return recordOne(path, format, how);
   if (split !== Infinity) integer("split", split, 1, Number.MAX_SAFE_INTEGER);
   const fs = await files(), first = path instanceof URL ? path : (await nodePaths()).resolve(String(path));
@@ -1184,9 +1230,10 @@ function begun(given) {
 }
 
 /** Records to one file. */
-async function recordOne(path, format, { durable = false, exclusive = false } = {}) {
-  const spec = specFor({}, format ?? {}), { constants } = await files(), given = begun(spec);
-  const flags = constants.O_RDWR | constants.O_CREAT | (exclusive ? constants.O_EXCL : 0);
+async function recordOne(path, format, { durable = false, exclusive = false }) {
+  const spec = specFor({}, format ?? {}), flags = exclusive ? ["O_CREAT", "O_EXCL"] : ["O_CREAT"];
+  await files();
+  const given = begun(spec);
   return recorderOf(path, flags, durable, async (handle, syncName) => {
     await beginOn(handle, durable, syncName, given.spec);
     return given;
@@ -1201,8 +1248,9 @@ async function resumedOn(handle, durable, syncName, allowed, spec) {
 }
 
 /** Continues a recording at a path, in Node, after the frames of the file. What `append` rejects is an error. */
-export async function appendTo(path, { durable = false } = {}) {
-  return recorderOf(path, "r+", durable, (handle, syncName) => resumedOn(handle, durable, syncName, 0));
+export async function appendTo(path, options = {}) {
+  const { durable = false } = checkedOptions(options, ["durable"]);
+  return recorderOf(path, [], durable, (handle, syncName) => resumedOn(handle, durable, syncName, 0));
 }
 
 /**
@@ -1211,9 +1259,12 @@ export async function appendTo(path, { durable = false } = {}) {
  * one and nothing else. Where the header counts more than the file holds, or a part of a frame, the file is repaired
  * first, because a recorder never cuts off what is counted. A file of another spec is an error, and stays as it is.
  */
-export async function continueFile(path, format, { durable = false } = {}) {
-  const spec = specFor({}, format ?? {}), { constants } = await files(), given = begun(spec);
-  return recorderOf(path, constants.O_RDWR | constants.O_CREAT, durable, async (handle, syncName) => {
+export async function continueFile(path, format, options = {}) {
+  const { durable = false } = checkedOptions(options, ["durable"]);
+  const spec = specFor({}, format ?? {});
+  await files();
+  const given = begun(spec);
+  return recorderOf(path, ["O_CREAT"], durable, async (handle, syncName) => {
     if (await isUnbegun(handle, given.spec)) {
       await beginOn(handle, durable, syncName, given.spec);
       return given;
@@ -1253,7 +1304,9 @@ function join(parts) {
  *
  * A recording that was cut off is an error, and so are chunks or a tag after the data, unless they may be overwritten.
  */
-export async function append(file, samples, { overwrite = false, onClipped = warn, dither, seed } = {}) {
+export async function append(file, samples, options = {}) {
+  const { overwrite = false, onClipped = warn, dither, seed } =
+    checkedOptions(options, ["overwrite", ...ENCODING_OPTIONS]);
   const given = fileOf(file), block = copyOf(taken(samples)), isBlob = given instanceof Blob;
   const noise = noiseOf({ dither, seed });
   await ready();

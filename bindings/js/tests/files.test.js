@@ -622,6 +622,19 @@ test("an argument out of range is named", async () => {
   }
 });
 
+test("an array whose memory was transferred is an error, and an empty one isn't", async () => {
+  const detached = (array) => (structuredClone(array.buffer, { transfer: [array.buffer] }), array);
+  const file = byHand([1, 0]), given = () => detached(Int16Array.of(1, 2)), gone = detached(byHand([1, 0]));
+  for (const call of [
+    () => write(given(), { sampleRate: 8000 }), () => write([given(), given()], { sampleRate: 8000 }),
+    () => append(file, given()), () => info(gone), () => read(gone), () => repair(gone), () => info(gone.buffer),
+  ]) {
+    await assert.rejects(call(), { name: "TypeError", message: /detached/ }, `${call}`);
+  }
+  assert.deepEqual(await append(file, new Int16Array(0)), file);
+  await fails(info(new Uint8Array(0)), "ENDED");
+});
+
 test("calls that are made at once don't disturb each other", async () => {
   await Promise.all(Array.from({ length: 200 }, async (_, i) => {
     const samples = Int16Array.of(i, -i, i + 1, 2 * i), cut = byHand([i, 0, 1, 0, 9], { counted: 0 });

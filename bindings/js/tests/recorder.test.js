@@ -6,7 +6,10 @@ import node from "node:fs";
 import fs from "node:fs/promises";
 import os from "node:os";
 import path from "node:path";
-import { HoundError, append, appendTo, continueFile, info, read, record, repairFile, write } from "../hound.js";
+import {
+  HoundError, append, appendTo, continueFile, findDamage, findDamageInFile, guess, info, read, record, repair,
+  repairFile, write,
+} from "../hound.js";
 
 const SPEC = { sampleRate: 8000, channels: 2, bitsPerSample: 16 };
 const COMMAND = new URL("../command.js", import.meta.url).pathname;
@@ -238,6 +241,55 @@ test("arguments and files that can't be recorded to", async () => {
   assert.deepEqual(await content(), fileOf([block(2)]));
 });
 
+test("what is no regular file is rejected at once, also by the command", async () => {
+  const fifo = path.join(folder, "fifo");
+  spawnSync("mkfifo", [fifo]);
+  for (const where of [fifo, "/dev/null"]) for (const call of [
+    () => findDamageInFile(where), () => repairFile(where), () => appendTo(where), () => continueFile(where, SPEC),
+    () => record(where, SPEC), () => record(where, SPEC, { split: 4 }),
+  ]) {
+    await assert.rejects(call(), { code: "ESPIPE", message: `ESPIPE: this is no regular file, '${where}'` });
+  }
+  for (const word of ["info", "repair", "guess"]) {
+    const { status, stderr } = spawnSync(process.execPath, [COMMAND, word, fifo], { encoding: "utf8", timeout: 20000 });
+    assert.deepEqual([status, stderr], [1, `${fifo}: this is no regular file\n`]);
+  }
+  await fs.rm(fifo);
+});
+
+test("an option that a call doesn't know, or of another argument, is an error before anything is done", async () => {
+  const whole = fileOf([block(1)]), one = block(1), recorder = await record(take, SPEC);
+  await recorder.write(one);
+  await recorder.close();
+  for (const [call, name] of [
+    [() => record(take, { ...SPEC, exclusive: true }), "exclusive"],
+    [() => record(take, { ...SPEC, split: 100 }), "split"],
+    [() => record(take, SPEC, { exclusiv: true }), "exclusiv"],
+    [() => record(take, SPEC, { split: 4, sampleRate: 8000 }), "sampleRate"],
+    [() => continueFile(take, SPEC, { exclusive: true }), "exclusive"],
+    [() => continueFile(take, { ...SPEC, durable: true }), "durable"],
+    [() => appendTo(take, SPEC), "sampleRate"],
+    [() => repairFile(take, { toend: true }), "toend"],
+    [() => info(whole, { type: "int32" }), "type"],
+    [() => read(whole, { dither: true }), "dither"],
+    [() => write(one, { ...SPEC, clipped: true }), "clipped"],
+    [() => append(whole, one, { toEnd: true }), "toEnd"],
+    [() => repair(whole, { overwrite: true }), "overwrite"],
+    [() => repair(whole, { like: { ...SPEC, skip: 44 } }), "skip"],
+    [() => guess(whole, { start: 44 }), "start"],
+    [async () => (await record(take, SPEC, { split: 9 })).write(one, { channels: 2 }), "channels"],
+  ]) {
+    const message = new RegExp(`^${name} is no option of this argument, which has [a-z]`);
+    await assert.rejects(call(), { name: "TypeError", message }, `${call}`);
+    if (name !== "channels") assert.ok((await content()).equals(whole));
+  }
+  // What is reported of a file is a format, and an option that is undefined isn't given.
+  for (const format of [await info(whole), await findDamage(whole), await repair(whole)]) {
+    assert.deepEqual(Buffer.from(await write(one, { ...format, seed: undefined })), whole);
+    assert.deepEqual((await repair(whole, { like: format, skip: 44 })).frames, 3);
+  }
+});
+
 test("a file is appended to, by what append rejects elsewhere", async () => {
   await fs.writeFile(take, fileOf([block(1)]));
   for (const durable of [false, true]) {
@@ -357,8 +409,8 @@ test("what is durable is synced before the header counts it, and what was writte
       return real(bytes, from, Math.min(length, 3), place);
     }, async () => {
       const recorder = await record(take, SPEC, { durable });
-      // The first sync is the folder's.
-      const begun = durable ? /^sync,stat,(truncate,)?sync,header,sync,header,sync$/ : /^stat,(truncate,)?header$/;
+      // The first sync is the folder's, after a look at what kind of file it is.
+      const begun = durable ? /^stat,sync,stat,(truncate,)?sync,header,sync,header,sync$/ : /^stat,(truncate,)?header$/;
       assert.match(kinds(), begun);
       calls.length = 0;
       await recorder.write(block(1));
