@@ -349,15 +349,16 @@ js_linked() { # what a server needs is beside hound.js, and nothing that git see
         && cmp bindings/lib/hound_c32.wasm "$work/linked/node_modules/hound_bindings/hound_c32.wasm" \
             && [ -z "$(git status --short)" ]
 }
-js_bundled() { # for browsers: with nothing of Node, and with the module beside the bundle
-    local folder
-    for folder in js linked; do
+js_bundled() { # for browsers: with nothing of Node, and with hound_c32.wasm beside the bundle, be that a module or not
+    local folder format
+    for folder in js linked; do for format in esm iife; do
         cd "$work/$folder" && printf 'import * as hound from "hound_bindings";\nglobalThis.hound = hound;\n' > all.mjs \
-            && esbuild --log-level=warning --bundle --format=esm all.mjs --outfile=bundle/all.mjs \
-                && ! grep -q node: bundle/all.mjs && cp node_modules/hound_bindings/hound_c32.wasm bundle \
+            && esbuild --log-level=error --bundle --format=$format all.mjs --outfile=bundle/$format.mjs \
+                && ! grep -q node: bundle/$format.mjs && cp node_modules/hound_bindings/hound_c32.wasm bundle \
             && node --input-type=module -e \
-                'import { readFile } from "node:fs/promises"; globalThis.fetch = async (url) => new Response(await readFile(url)); await import("./bundle/all.mjs"); const file = await hound.write(Int16Array.of(7), { sampleRate: 8000 }); process.exitCode = (await hound.read(file))[0] === 7 ? 0 : 1' || return 1
-    done
+                'import { readFile } from "node:fs/promises"; globalThis.fetch = async (url) => new Response(await readFile(url)); globalThis.document = { currentScript: { src: "file://" + process.argv[1] } }; await import(process.argv[1]); const file = await hound.write(Int16Array.of(7), { sampleRate: 8000 }); process.exitCode = (await hound.read(file))[0] === 7 ? 0 : 1' \
+                "$PWD/bundle/$format.mjs" || return 1
+    done; done
 }
 page_of_js() { page js > "$work/js/page.mjs" && cd "$work/js" && node page.mjs; }
 # The answers of this processor's library, which rows.py compares with the model; and whether another's are the same.
