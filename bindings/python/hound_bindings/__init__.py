@@ -17,11 +17,13 @@ from ._library import __version__ as __version__
 from .files import append, info, read, read_into, read_with_info, to_bytes, write
 from .lost import guess
 from .repairs import find_damage, repair
+from .resuming import resume
 from .streams import Reader, Writer, append_to, create, open
 
 __all__ = [
     "Cause", "HoundError", "Info", "Reader", "Repair", "State", "Writer", "append", "append_to", "create",
-    "find_damage", "guess", "info", "open", "read", "read_into", "read_with_info", "repair", "to_bytes", "write",
+    "find_damage", "guess", "info", "open", "read", "read_into", "read_with_info", "repair", "resume", "to_bytes",
+    "write",
 ]  # fmt: skip
 
 for _name in __all__:  # by which help, tracebacks and pickles name them

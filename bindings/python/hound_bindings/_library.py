@@ -218,6 +218,12 @@ class Info(NamedTuple):
         return self.frames / self.sample_rate if self.sample_rate else 0.0
 
 
+def described(info: Info) -> str:
+    """What the samples of a file are, in words."""
+    bits = f"{info.bits_per_sample} bits" + (" (float)" if info.is_float else "")
+    return f"{info.sample_rate} Hz, {info.channels} channel{'s' * (info.channels != 1)}, {bits}"
+
+
 class _Held(NamedTuple):
     state: State
     frames: int

@@ -2,6 +2,7 @@
 import contextlib
 import ctypes
 import errno
+import io
 import itertools
 from typing import Any, Iterable, List, NamedTuple, Optional, Tuple, Union
 
@@ -13,7 +14,8 @@ from ._library import (
 )  # fmt: skip
 
 __all__ = [
-    "Recorder", "Recording", "begin", "begun", "found_in", "repaired", "resumed", "walk_over", "warn_of_rest",
+    "Recorder", "Recording", "begin", "beginning_of", "begun", "found_in", "repaired", "resumed", "walk_over",
+    "warn_of_rest",
 ]  # fmt: skip
 
 _INT = ctypes.c_int32
@@ -72,6 +74,13 @@ def begin(file: disk.Medium, spec: CSpec, durable: bool) -> None:
         if checked(_beginning(given, number, ctypes.byref(effect))) == 0:
             return
         disk.perform(effect, file, durable)
+
+
+def beginning_of(spec: CSpec) -> bytes:
+    """The bytes with which a new file begins."""
+    memory = io.BytesIO()
+    begin(disk.Stream(memory), spec, False)
+    return memory.getvalue()
 
 
 def begun(spec: CSpec) -> CRecorder:

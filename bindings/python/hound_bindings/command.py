@@ -3,6 +3,7 @@ forms, and recordings from standard input."""
 import argparse
 import array
 import contextlib
+import errno
 import io
 import json
 import math
@@ -10,16 +11,19 @@ import os
 import re
 import select
 import shlex
+import shutil
 import signal
 import sys
+import textwrap
 import time
+import types
 import warnings
-from typing import Any, Callable, Dict, Iterator, List, NamedTuple, Optional, Tuple
+from typing import Any, Callable, Dict, Iterator, List, NamedTuple, Optional, Tuple, TypeVar
 
 import hound_bindings as hound
 
-from . import conversion, disk, files, lost, repairs, streams
-from ._library import FIND_DAMAGE, FLOATS, HEADER_BYTES, INTEGERS, CRepair, named
+from . import conversion, disk, files, lost, parts, repairs
+from ._library import FIND_DAMAGE, FLOATS, HEADER_BYTES, INTEGERS, CRepair, described, named
 
 __all__ = ["main"]
 
@@ -43,6 +47,14 @@ _HINTS = {
     hound.Cause.TOO_LONG: f"repair a copy of the first part of a file that is too long (head -c {_FIRST_PART} FILE > "
     f"PART.wav); record takes the rest as raw samples (tail -c +{_FIRST_PART + 1} FILE)",
 }
+# What pipes a microphone into `record`.
+_MICROPHONE = (
+    "arecord -t raw -f S16_LE -r 48000 -c 2 | hound-wav record take.wav --rate 48000 --channels 2 --bits 16"
+)
+_RECORDING = f"""To record a microphone by ALSA, FFmpeg or SoX:
+  {_MICROPHONE}
+  ffmpeg -v error -f alsa -i default -f wav - | hound-wav record take.wav
+  rec -q -t wav - | hound-wav record take.wav"""
 # The rate of a guess that isn't given.
 _USUAL_RATE = 48000
 # What can be done about a cause, by the names of this command.
@@ -56,6 +68,9 @@ _ADVICE = {
     hound.Cause.TOO_LONG: "a WAV file has less than 4 GiB, so the rest needs another one",
 }
 _USUAL_HINT = "where a header is lost or damaged, --guess or --like makes a copy with a new one"
+
+
+_Shown = TypeVar("_Shown", bound="_Line")
 
 
 class _Wrong(Exception):
@@ -125,25 +140,51 @@ def _print_json(**facts: Any) -> None:
         print(json.dumps(facts))
 
 
-class _Bar:
-    """How much is done, on a terminal, once it takes a second."""
+class _Line:
+    """A line that is written again and again, on a terminal alone, from so many seconds on."""
 
-    def __init__(self, name: str, total: float) -> None:
-        self._name, self._total, self._next = name.translate(_ESCAPES), total, time.monotonic() + 1
-        self._is_shown, self._is_there = sys.stderr.isatty() and total > 0, False
+    def __init__(self, seconds: float) -> None:
+        self.is_shown, self._is_there, self._next = sys.stderr.isatty(), False, time.monotonic() + seconds
 
-    def __enter__(self) -> "_Bar":
+    def __enter__(self: _Shown) -> _Shown:
         return self
 
     def __exit__(self, *_: Any) -> None:
         if self._is_there:
             print("\r\33[K", end="", file=sys.stderr, flush=True)
 
+    def is_due(self) -> bool:
+        return self.is_shown and time.monotonic() >= self._next
+
+    def write(self, text: str) -> None:
+        self._next, self._is_there = time.monotonic() + 0.2, True
+        room = max(shutil.get_terminal_size().columns - 1, 1)
+        print(f"\r\33[K{text.translate(_ESCAPES)[:room]}", end="", file=sys.stderr, flush=True)
+
+
+class _Bar(_Line):
+    """How much is done, once it takes a second."""
+
+    def __init__(self, name: str, total: float) -> None:
+        super().__init__(1)
+        self._name, self._total = name, total
+
     def show(self, done: float) -> None:
-        if self._is_shown and time.monotonic() >= self._next:
-            self._next, self._is_there = time.monotonic() + 0.2, True
+        if self._total > 0 and self.is_due():
             part = min(done / self._total, 1)
-            print(f"\r[{'#' * int(40 * part):40}] {part:4.0%} {self._name}", end="", file=sys.stderr, flush=True)
+            self.write(f"[{'#' * int(40 * part):40}] {part:4.0%} {self._name}")
+
+
+class _Watched(disk.Descriptor):
+    """A file whose reads show on a bar how much of it is done."""
+
+    def __init__(self, file: disk.Descriptor, bar: _Bar) -> None:
+        super().__init__(file._file)
+        self._bar = bar
+
+    def read_at(self, count: int, place: int) -> bytes:
+        self._bar.show(place)
+        return super().read_at(count, place)
 
 
 def _source(name: str) -> Any:
@@ -151,11 +192,6 @@ def _source(name: str) -> Any:
 
 
 # info
-
-
-def _form(info: hound.Info) -> str:
-    bits = f"{info.bits_per_sample} bits" + (" (float)" if info.is_float else "")
-    return f"{info.sample_rate} Hz, {info.channels} channel{'s' * (info.channels != 1)}, {bits}"
 
 
 class _Seen(NamedTuple):
@@ -217,7 +253,7 @@ def _info(options: argparse.Namespace) -> int:
                 more.update(chunk_at_end=chunks and chunks.name)
             _print_json(file=name, **info._asdict(), seconds=info.duration, **more)
         else:
-            _say(f"{name}: {_form(info)}, {_said_of(info, found)}")
+            _say(f"{name}: {described(info)}, {_said_of(info, found)}")
             _say_what_is_counted(name, chunks)
         return found is None or found.state != hound.State.CUT_OFF
 
@@ -269,7 +305,7 @@ def _recover(options: argparse.Namespace) -> int:
                         copy=None if options.dry_run else copy)  # fmt: skip
         else:
             done = "" if options.dry_run else f": {frames} frames in {copy}"
-            _say(f"{name}: {'a guess: ' if guessed else ''}{_form(form)}, from byte {skip} on{done}")
+            _say(f"{name}: {'a guess: ' if guessed else ''}{described(form)}, from byte {skip} on{done}")
         if is_rate_assumed:
             assumed.append(name)
         return True
@@ -299,7 +335,8 @@ def _repair(options: argparse.Namespace) -> int:
                 return found, chunks, None
             copy = repairs.copy_name(name)
             if not options.dry_run:
-                found = repairs.copied(file, copy, options.durable, **how)
+                with _Bar(name, file.size()) as bar:
+                    found = repairs.copied(_Watched(file, bar), copy, options.durable, **how)
             return found, chunks, copy
 
     def repair(name: str) -> bool:
@@ -434,14 +471,14 @@ def _form_of_all(names: List[str]) -> hound.Info:
     infos = [_whole(name) for name in names]
     for name, info in zip(names, infos):
         if info[:4] != infos[0][:4]:
-            raise ValueError(f"{name} has another form, {_form(info)}, than {names[0]}, {_form(infos[0])}")
+            raise ValueError(f"{name} has another form, {described(info)}, than {names[0]}, {described(infos[0])}")
     return infos[0]._replace(frames=sum(info.frames for info in infos))
 
 
 def _check_order(names: List[str]) -> None:
     """An error where the first file of a recording comes after its second one, as by the shell's take*.wav."""
     for place, name in enumerate(names):
-        second = streams.part_name(name, 2)
+        second = parts.part_name(name, 2)
         if second in names[:place]:
             raise _Wrong(f"{name} comes before {second}: name it first")
 
@@ -466,11 +503,15 @@ def _join(options: argparse.Namespace) -> int:
 
 
 class _Stop:
-    """Whether SIGINT or SIGTERM came. After the first one they end the program again."""
+    """Whether SIGINT, SIGTERM or SIGHUP came, which ends a recording well. After the first one they end the program
+    again. SIGHUP stays ignored where nohup lets it be."""
 
     def __init__(self) -> None:
         self.came = False
-        self._before = {number: signal.signal(number, self._note) for number in (signal.SIGINT, signal.SIGTERM)}
+        numbers = [signal.SIGINT, signal.SIGTERM]
+        if hasattr(signal, "SIGHUP") and signal.getsignal(signal.SIGHUP) != signal.SIG_IGN:
+            numbers.append(signal.SIGHUP)
+        self._before = {number: signal.signal(number, self._note) for number in numbers}
 
     def _note(self, *_: Any) -> None:
         self.came = True
@@ -481,68 +522,264 @@ class _Stop:
             signal.signal(number, handler)
 
 
-def _has_input(seconds: float) -> bool:
-    """Whether standard input has bytes, or has ended, within this time, or half a second: so often a signal is looked
-    for. Windows can't say so of a pipe."""
-    return os.name == "nt" or bool(select.select([sys.stdin.buffer], [], [], min(max(seconds, 0), 0.5))[0])
+# What a WAV stream begins with. Only the first of these is read: of the others the error says what they are.
+_STREAMS = b"RIFF", b"RIFX", b"RF64", b"BW64"
 
 
-def _recorded(writer: hound.Writer, every: float) -> int:
-    """Records standard input, with a checkpoint in each interval, until it ends or a signal comes: how many bytes of a
-    frame were left."""
-    stop, held, last, counted = _Stop(), b"", time.monotonic(), writer.tell()
-    channels, spec = writer.info.channels, conversion.spec_like(writer.info)
+def _may_be_wav(front: bytes) -> bool:
+    return any((tag + front[4:8].ljust(4) + b"WAVE").startswith(front[:12]) for tag in _STREAMS)
+
+
+class _Input:
+    """Standard input, which is looked at before it is recorded. It ends where a signal comes, too."""
+
+    name = "<stdin>"
+    is_longer = False  # More came than the header of a stream counts.
+
+    def __init__(self, stop: _Stop) -> None:
+        self._stop, self._held, self._left, self._is_odd = stop, b"", math.inf, False
+
+    def next(self, count: int, seconds: float) -> Optional[bytes]:
+        """The next bytes, at most so many; none at the end, and None where no more came within this time."""
+        if self._left == 0 and self._ends():
+            return b""
+        if not self._held:
+            if not self._has_more(seconds):
+                return b"" if self._stop.came else None
+            self._held = os.read(sys.stdin.fileno(), _BLOCK)
+        count = int(min(count, self._left))
+        piece, self._held = self._held[:count], self._held[count:]
+        self._left -= len(piece)
+        return piece
+
+    def read(self, count: int) -> bytes:
+        """The same, as soon as there are some."""
+        while (piece := self.next(count, 1)) is None:
+            pass
+        return piece
+
+    def _has_more(self, seconds: float) -> bool:
+        """Whether there are bytes, or none will come, within this time, or half a second: so often a signal is looked
+        for. Windows can't say so of a pipe."""
+        if self._stop.came:
+            return False
+        return os.name == "nt" or bool(select.select([sys.stdin.buffer], [], [], min(max(seconds, 0), 0.5))[0])
+
+    def front(self, is_enough: Callable[[bytes], bool]) -> bytes:
+        """The next bytes, as many as are enough, or all: they stay to be read."""
+        front = b""
+        while not is_enough(front) and (piece := self.read(_BLOCK)):
+            front += piece
+        self._held = front + self._held
+        return front
+
+    def wav_form(self) -> Optional[hound.Info]:
+        """What the header of a WAV stream says, after which its samples are read; None where it isn't one."""
+        front = self.front(lambda front: len(front) >= 12 or not _may_be_wav(front))
+        if len(front) < 12 or not _may_be_wav(front):
+            return None
+        try:
+            return self._form_after(False)
+        except hound.HoundError as error:
+            if error.cause not in (hound.Cause.DATA_LENGTH, hound.Cause.FRAME_LENGTH):
+                raise
+        return self._form_after(True)
+
+    def _form_after(self, to_end: bool) -> hound.Info:
+        """What the header says, with which the input begins. At an error it begins with it again."""
+        taken: List[bytes] = []
+
+        def take(count: int) -> bytes:
+            taken.append(self.read(count))
+            return taken[-1]
+
+        source: Any = types.SimpleNamespace(read=take, name=self.name)
+        try:
+            info = hound.open(source, to_end=to_end).info
+        except hound.HoundError:
+            self._held = b"".join(taken) + self._held
+            raise
+        size = info.channels * info.bytes_per_sample
+        self._left, self._is_odd = info.frames * size or math.inf, bool(info.frames * size % 2)
+        return info
+
+    def _ends(self) -> bool:
+        """Whether the input ends after the samples that its header counts, or chunks follow. A program that doesn't
+        know how much it will write may count less than all: then the rest is sound, too."""
+        self._left = math.inf
+        tag = self.front(lambda front: len(front) >= 4 + self._is_odd)[self._is_odd :][:4]
+        if tag and tag not in lost._NAMES:
+            self.is_longer = True
+            return False
+        while self.read(_BLOCK):
+            pass
+        self._left = 0
+        return True
+
+
+def _clock(seconds: float) -> str:
+    return f"{int(seconds) // 3600}:{int(seconds) // 60 % 60:02}:{int(seconds) % 60:02}"
+
+
+def _decibels(peak: float) -> str:
+    return f"{20 * math.log10(peak):.1f}" if peak > 0 else "-inf"
+
+
+class _Meter(_Line):
+    """How long a recording is, how loud each channel was since it was shown last, and what its header counts."""
+
+    def __init__(self, writer: hound.Writer) -> None:
+        super().__init__(0)
+        self._writer, self._counted, info = writer, writer.tell(), writer.info
+        self._full, self._peaks = 1.0 if info.is_float else 2.0 ** (info.bits_per_sample - 1), [0.0] * info.channels
+
+    def hear(self, samples: "array.array[Any]") -> None:
+        channels = len(self._peaks)
+        if self.is_shown and samples:
+            parts = (samples[channel::channels] for channel in range(channels))
+            loudest = (max(max(part), -min(part)) / self._full for part in parts)
+            self._peaks = [max(pair) for pair in zip(self._peaks, loudest)]
+
+    def count(self) -> None:
+        """Notes a checkpoint."""
+        self._counted = self._writer.tell()
+
+    def show(self) -> None:
+        if self.is_due():
+            rate, name = self._writer.info.sample_rate, os.path.basename(os.fspath(self._writer.paths[-1]))
+            peaks = " ".join(map(_decibels, self._peaks))
+            times = [_clock(frames / rate) for frames in (self._writer.tell(), self._counted)]
+            size = self._writer._end() / (1 << 20)
+            self.write(f"{times[0]}  {peaks} dB  checkpoint at {times[1]}  {name}: {size:.1f} MiB")
+            self._peaks = [0.0] * len(self._peaks)
+
+
+def _recorded(writer: hound.Writer, source: _Input, form: hound.Info, every: float) -> int:
+    """Records an input to its end, with a checkpoint in each interval: how many bytes of a frame were left."""
+    held, last, counted = b"", time.monotonic(), writer.tell()
+    channels, spec = form.channels, conversion.spec_like(form)
     size = channels * spec.bytes_per_sample
-    try:
-        while not stop.came:
+    with _Meter(writer) as meter:
+        while True:
             if time.monotonic() - last >= every:
                 if counted != writer.tell():
                     writer.flush()
+                    meter.count()
                 last, counted = time.monotonic(), writer.tell()
-            if not _has_input(last + every - time.monotonic()):
-                continue
+            meter.show()
             # With --split a file has exactly so many frames, however the samples come.
             room = (writer.frames_left or _BLOCK) * size - len(held)
-            piece = os.read(sys.stdin.fileno(), min(_BLOCK, room))
+            piece = source.next(min(_BLOCK, room), last + every - time.monotonic())
+            if piece is None:
+                continue
             if not piece:
-                break
+                return len(held)
             held += piece
             count = len(held) // size
-            writer.write(conversion.decoded(held, count * channels, spec))
+            samples = conversion.decoded(held, count * channels, spec)
+            writer.write(samples)
+            meter.hear(samples)
             held = held[count * size :]
-    finally:
-        stop.restore()
-    return len(held)
 
 
-def _opened_to_record(options: argparse.Namespace) -> hound.Writer:
+def _exists(name: str) -> ValueError:
+    return ValueError(f"{name} exists: --append continues it, --overwrite empties it")
+
+
+def _check_options_of_record(options: argparse.Namespace) -> bool:
+    """Whether the options say what the samples are; an error where they contradict one another."""
     given = options.rate, options.channels, options.bits
+    if options.append and options.overwrite:
+        raise _Wrong("a file is continued, or emptied: --append, or --overwrite")
+    if (any(given) or options.float) and not all(given) and (options.append or options.raw):
+        raise _Wrong("--rate, --channels and --bits are given together, or none of them")
+    if sys.stdin.isatty() and not all(given) and not options.append:
+        raise _Wrong(f"--rate, --channels and --bits are needed, or a WAV stream in a pipe, as {_MICROPHONE}")
+    return all(given)
+
+
+def _form_to_record(options: argparse.Namespace, source: _Input) -> hound.Info:
+    """What the samples of the input are: by the header of a WAV stream, by the options, or by the file that is
+    continued."""
+    is_given = _check_options_of_record(options)
+    if not options.append and not options.overwrite and os.path.lexists(options.target):
+        raise _exists(options.target)
+    if sys.stdin.isatty():
+        _complain(f"samples are read from this terminal: to record a microphone pipe it in, as {_MICROPHONE}")
+    form = None if options.raw else source.wav_form()
+    if form is not None:
+        _check_stream(form, options)
+        return form
+    if is_given:
+        return hound.Info(options.rate, options.channels, options.bits, options.float)
+    if not options.append:
+        raise _Wrong("--rate, --channels and --bits are needed, or --append, or a WAV stream")
+    try:
+        with repairs.found_at(options.target, FIND_DAMAGE) as (_, found):
+            return repairs.header_of(found)
+    except hound.HoundError as error:
+        if error.cause == hound.Cause.ENDED:
+            raise ValueError(f"{options.target} has no header: --rate, --channels and --bits begin it anew") from None
+        raise
+
+
+def _check_stream(form: hound.Info, options: argparse.Namespace) -> None:
+    """An error where the options say something else than the header of a stream."""
+    said = {"rate": form.sample_rate, "channels": form.channels, "bits": form.bits_per_sample, "float": form.is_float}
+    for name, value in said.items():
+        given = getattr(options, name)
+        if given and given != value:
+            what = f"the input is a WAV stream of {described(form)}, and not of --{name}"
+            raise _Wrong(f"{what}{'' if given is True else f' {given}'}: --raw records its bytes as they are")
+
+
+def _opened_to_record(options: argparse.Namespace, form: hound.Info) -> hound.Writer:
+    # Its bytes a sample are those of the file: samples of 24 bits may have three or four.
+    more = {"like": form._replace(bytes_per_sample=0), "durable": options.durable}
+    more["split"] = options.split(form) if options.split else None
     if options.append:
-        if options.split:
-            raise _Wrong("--split is for a new recording: --append continues one file")
-        if options.overwrite:
-            raise _Wrong("a file is continued, or emptied: --append, or --overwrite")
-        if any(given) or options.float:
-            raise _Wrong("with --append the file says what its samples are")
-        return hound.append_to(options.target, durable=options.durable)
-    if not all(given):
-        raise _Wrong("--rate, --channels and --bits are needed, or --append")
-    more = {"durable": options.durable, "is_float": options.float, "exclusive": not options.overwrite}
-    if options.split:
-        return hound.create(options.target, *given, **more, split=options.split(hound.Info(*given, options.float)))
-    writer = hound.create(options.target, *given, **more)
-    writer._split(sys.maxsize)  # The second file is looked for where the first one has no more room.
+        writer = hound.resume(options.target, **more)
+    else:
+        writer = hound.create(options.target, **more, exclusive=not options.overwrite)
+    if not options.split:
+        writer._split(sys.maxsize)  # The second file is looked for where the first one has no more room.
     return writer
 
 
 def _record(options: argparse.Namespace) -> int:
-    writer = _opened_to_record(options)
+    stop = _Stop()
     try:
-        with writer:
-            left = _recorded(writer, options.checkpoint)
+        source = _Input(stop)
+        form = _form_to_record(options, source)
+        return _record_as(options, source, form)
     finally:
-        # Also where a write failed, whose error is said, too.
-        is_read = all([_say_what_is_kept(os.fspath(path)) for path in writer.paths])
+        stop.restore()
+
+
+def _record_as(options: argparse.Namespace, source: _Input, form: hound.Info) -> int:
+    folder = os.path.dirname(options.target)
+
+    def as_given(path: Any) -> str:
+        """The name of a file beside the target, as that is given."""
+        name = os.path.join(folder, os.path.basename(path))
+        return name if os.path.abspath(name) == os.path.abspath(path) else str(path)
+
+    try:
+        writer = _opened_to_record(options, form)
+        try:
+            with writer:
+                left = _recorded(writer, source, form, options.checkpoint)
+        finally:
+            # Also where a write failed, whose error is said, too.
+            is_read = all([_say_what_is_kept(as_given(path)) for path in writer.paths])
+    except (OSError, hound.HoundError) as error:
+        if error.filename is not None:
+            error.filename = as_given(error.filename)
+        if isinstance(error, FileExistsError) and error.filename == options.target:
+            raise _exists(options.target) from None
+        raise
+    if source.is_longer:
+        _complain("more came than the header of the stream counts, and is recorded, too")
     if left:
         _complain(f"the last {left} bytes are no whole frame")
     return 1 if left or not is_read else 0
@@ -555,7 +792,7 @@ def _say_what_is_kept(name: str) -> bool:
     except (OSError, ValueError) as error:
         _complain(f"what is recorded can't be read: {_sentence(error)}")
         return False
-    _say(f"{name}: {_form(info)}, {info.frames} frames, {info.duration:.3f} s", sys.stderr)
+    _say(f"{name}: {described(info)}, {info.frames} frames, {info.duration:.3f} s", sys.stderr)
     return True
 
 
@@ -576,6 +813,12 @@ def _from(least: int) -> Callable[[str], int]:
 _positive = _from(1)
 
 
+def _rate(text: str) -> int:
+    """Frames a second, or thousands of them, as 44.1k."""
+    parts = re.fullmatch(r"([0-9]{1,7})(?:\.([0-9]{1,3}))?k", text)
+    return _positive(parts[1] + (parts[2] or "").ljust(3, "0") if parts else text)
+
+
 def _file(text: str) -> str:
     if text == "-":
         raise argparse.ArgumentTypeError("it has to be a file, since its sizes are written at the end")
@@ -587,7 +830,7 @@ def _form_of(text: str) -> hound.Info:
     parts, is_float = text[: len(text) - text.endswith("f")].split(","), text.endswith("f")
     if len(parts) != 3:
         raise argparse.ArgumentTypeError(f"{text} isn't RATE,CHANNELS,BITS or RATE,CHANNELS,BITSf")
-    rate, channels, bits = map(_positive, parts)
+    rate, channels, bits = _rate(parts[0]), _positive(parts[1]), _positive(parts[2])
     return hound.Info(rate, channels, bits, is_float, data_start=lost.USUAL_START)
 
 
@@ -630,8 +873,12 @@ def _parser() -> argparse.ArgumentParser:
     parser.add_argument("--version", action="version", version=f"hound-wav {hound.__version__}")
     commands = parser.add_subparsers(dest="command", required=True, metavar="COMMAND")
 
-    def command(name: str, run: Callable[[argparse.Namespace], int], words: str) -> Callable[..., Any]:
+    def command(name: str, run: Callable[[argparse.Namespace], int], words: str, more: str = "") -> Callable[..., Any]:
         one = commands.add_parser(name, help=words, description=words[0].upper() + words[1:] + ".", epilog=_STATUS)
+        if more:
+            one.formatter_class = argparse.RawDescriptionHelpFormatter
+            one.description, one.epilog = (textwrap.fill(text, 74) for text in (one.description or "", _STATUS))
+            one.epilog = f"{more}\n\n{one.epilog}"
         one.set_defaults(run=run)
         return one.add_argument
 
@@ -653,7 +900,7 @@ def _parser() -> argparse.ArgumentParser:
     words = "for a lost header: copy such samples (f: floats) to NAME.repaired.wav"
     add("--like", type=_form_of, metavar="RATE,CHANNELS,BITS[f]", help=words)
     add("--guess", help="for a lost header: guess channels and bits by what is predictable then", **flag)
-    add("--rate", type=_positive, metavar="HZ", help=f"that of --guess, which can't find it ({_USUAL_RATE} is assumed)")
+    add("--rate", type=_rate, metavar="HZ", help=f"that of --guess, which can't find it ({_USUAL_RATE} is assumed)")
     words = (
         "with --like and --guess: how many come before the samples "
         "(without it: those before what looks like their header, or of a usual one)"
@@ -676,7 +923,7 @@ def _parser() -> argparse.ArgumentParser:
     add("--channels", type=_positive, help="the mean of all as one, or one in all")
     add("--dither", help="add triangular noise before rounding", **flag)
     add("--seed", type=_positive, help="of that noise (1)")
-    add("--rate", type=_positive, help="isn't changed: it is an error")
+    add("--rate", type=_rate, help="isn't changed: it is an error")
     add("--overwrite", help="replace OUT if it is there", **flag)
     add("--durable", help="sync what is written", **flag)
 
@@ -686,15 +933,24 @@ def _parser() -> argparse.ArgumentParser:
     add("--overwrite", help="replace OUT if it is there", **flag)
     add("--durable", help="sync what is written", **flag)
 
-    words = "record raw samples from standard input, as the file stores them: little-endian, those of 8 bits unsigned"
-    add = command("record", _record, words)
+    words = (
+        "record standard input: a WAV stream, or raw samples, as the file stores them (little-endian, those of 8 bits "
+        "unsigned)"
+    )
+    add = command("record", _record, words, _RECORDING)
     words = "has all samples up to the last checkpoint if the program is killed; Ctrl-C ends it well"
     add("target", metavar="OUT", type=_file, help=words)
-    add("--rate", type=_positive, help="frames a second: needed, as --channels and --bits are, without --append")
+    words = "frames a second, such as 48000 or 44.1k: needed for raw samples, as --channels and --bits are"
+    add("--rate", type=_rate, help=words)
     add("--channels", type=_positive)
     add("--bits", **form)
     add("--float", help=f"floats, of {_FLOAT_BITS} bits", **flag)
-    add("--append", help="continue a file, which says what its samples are", **flag)
+    add("--raw", help="take the input for samples, also where it begins as a WAV stream", **flag)
+    words = (
+        "continue the recording in OUT, or in its last part, repaired first if it was cut off; a raw one needs no --rate "
+        "then, and with --rate, --channels and --bits it begins where there is none"
+    )
+    add("--append", help=words, **flag)
     add("--overwrite", help="empty OUT if it is there", **flag)
     add("--durable", help="sync each checkpoint", **flag)
     add("--checkpoint", type=_seconds, default=1.0, metavar="SECONDS", help="make one so often (1)")

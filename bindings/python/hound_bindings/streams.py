@@ -2,7 +2,6 @@
 import atexit
 import contextlib
 import ctypes
-import errno
 import io
 import os
 import sys
@@ -21,8 +20,9 @@ from ._library import (
     HoundError, Info, Path, check_header, checked, function, info_from, integer, name_error, named,
 )  # fmt: skip
 from ._recorder import Recorder, Recording, begin, begun, found_in, repaired, resumed, walk_over, warn_of_rest
+from .parts import check_next, check_no_part, part_name
 
-__all__ = ["Reader", "Writer", "append_to", "create", "open"]
+__all__ = ["Reader", "Writer", "append_to", "create", "open", "with_header"]
 
 _whole_frames = function("whole_frames", POINTER, U64)
 
@@ -274,18 +274,6 @@ if hasattr(os, "register_at_fork"):
     os.register_at_fork(after_in_child=_unlock_readers)
 
 
-def part_name(path: Path, number: int) -> str:
-    """The name of a further file of a recording, as take-002.wav is the second one of take.wav."""
-    stem, ending = os.path.splitext(os.fsdecode(path))
-    return f"{stem}-{number:03}{ending}"
-
-
-def _check_part(path: Path) -> None:
-    """An error where a file of this name is there, also a link to none."""
-    if os.path.lexists(path):
-        raise FileExistsError(errno.EEXIST, os.strerror(errno.EEXIST), os.fspath(path))
-
-
 class Writer(Recorder):
     """A file that is written block by block. It is a context manager, which closes it.
 
@@ -439,9 +427,13 @@ class Writer(Recorder):
                 self._continue()
         self._request_block(count)
 
+    def _follow(self, paths: List[str], frames: int) -> None:
+        """Makes the file a further one of a recording that has these files with so many frames before it."""
+        self._state = self._state._replace(ended=tuple(paths), frames_before=frames)
+
     def _split(self, frames: int) -> None:
         """Lets the recording continue in a next file after so many frames, or as many as have room."""
-        self._most = min(frames, self.frames_left)
+        self._most = min(frames, self._frames() + self._frames_with_room())
 
     def _continue(self) -> None:
         """Continues in a next file, which is made, begun and locked before this one is ended."""
@@ -473,7 +465,7 @@ class Writer(Recorder):
         _WRITERS[self] = self._file  # and no other one that a call had begun
         is_left = self._attempted == path and _is_bare(path)
         if not is_left:
-            _check_part(path)
+            check_no_part(path)
         self._attempted = path
         try:
             following = _create(path, self._spec, self._durable, not is_left, False)
@@ -574,7 +566,8 @@ def create(
     frames = integer("split", split, 1, sys.maxsize)
     if not isinstance(path, (str, os.PathLike)):
         raise ValueError("split is for files at a path")
-    _check_part(part_name(path, 2))
+    path = os.path.abspath(path)
+    check_next(path)
     writer = _create(path, spec, durable, exclusive, dither)
     writer._split(frames)
     return writer
@@ -582,7 +575,11 @@ def create(
 
 def _create(path: Union[Path, IO[bytes]], spec: CSpec, durable: bool, exclusive: bool, dither: int) -> Writer:
     """A Writer of a new file, whose header is stored. Where that fails it is closed, and writes nothing more."""
-    writer = _begun(path, spec, durable, exclusive, dither)
+    return with_header(_begun(path, spec, durable, exclusive, dither))
+
+
+def with_header(writer: Writer) -> Writer:
+    """A Writer of a file that was begun, once its header is stored. Where that fails it is closed."""
     try:
         writer._perform_all()
     except BaseException as error:

@@ -1,10 +1,12 @@
 """The command hound-wav, as it is called, and files whose header is lost."""
 import array
+import contextlib
 import fractions
 import io
 import json
 import math
 import os
+import pty
 import random
 import re
 import resource
@@ -23,6 +25,13 @@ from test_floats import WIDE, Folder, as_float32, nearest, silently
 from test_streams import SAMPLES, content_of, forked
 from wav import CHUNK, by_hand, made_by_wave, wave_of
 
+# Runs a command whose clock is fast.
+HURRIED = (
+    "t = time.monotonic; n = iter(range(10**9)); time.monotonic = lambda: t() + 5 * next(n); import sys; "
+    "sys.exit(c.main(sys.argv[1:]))"
+)
+# What a new file begins with.
+PLAIN = by_hand(b"", channels=2, riff=0)
 FORMS = [
     (bits, is_float, channels)
     for bits, is_float in ((8, False), (16, False), (24, False), (32, False), (32, True))
@@ -580,6 +589,150 @@ class Command(Folder):
         self.run_command("record", "a.wav", "--append", "--checkpoint", "0", status=2)
         self.assertEqual(os.listdir(self.folder), ["a.wav"])
 
+    def test_record_continues_what_a_kill_left(self):
+        """A recorder that starts by itself is rejected by nothing that a recorder leaves."""
+        form, data = ["--rate", "8000", "--channels", "2", "--bits", "16"], SAMPLES.tobytes()
+        for left, held in (
+            (None, 0), (b"", 0), (PLAIN[:40], 0), (PLAIN[:20], 0), (PLAIN, 0), (by_hand(data, 4, channels=2), 5),
+            (by_hand(data, channels=2)[:-7], 3), (by_hand(data[:8], 0xFFFFFFFF, channels=2), 2),
+        ):  # fmt: skip
+            for words in form, []:
+                if os.path.exists(self.path):
+                    os.unlink(self.path)
+                if left is not None:
+                    self.leave_as("a.wav", left)
+                if words or held or left == PLAIN:
+                    self.run_command("record", "a.wav", "--append", *words, given=data)
+                    self.assertEqual(self.content("a.wav"), made_by_wave(SAMPLES[: 2 * held] + SAMPLES))
+                else:
+                    self.run_command("record", "a.wav", "--append", given=data, status=1)
+                    self.assertEqual(left and self.content("a.wav"), left)
+        self.leave_as("a.wav", PLAIN[:40])
+        self.run_command("record", "a.wav", "--append", given=data, status=1)
+        said = b"hound-wav: a.wav has no header: --rate, --channels and --bits begin it anew\n"
+        self.assertEqual(self.said, said)
+        for content in by_hand(data), by_hand(data, channels=2, after=CHUNK), b"fLaC" + bytes(60), PLAIN[1:40]:
+            self.leave_as("a.wav", content)
+            self.run_command("record", "a.wav", "--append", *form, given=data, status=1)
+            self.assertEqual(self.content("a.wav"), content)
+        for words in form[:2], form[:4], ["--float"]:
+            self.run_command("record", "a.wav", "--append", *words, status=2)
+
+    def test_record_continues_in_parts(self):
+        form, data = ["--rate", "8000", "--channels", "1", "--bits", "16"], bytes(range(250))
+        for words in form, []:
+            self.run_command("record", "a.wav", *form, "--split", "20", given=data[:100])
+            self.run_command("record", "a.wav", "--append", *words, "--split", "20", given=data[100:])
+            self.assertIn(b"a-003.wav: 8000 Hz, 1 channel, 16 bits, 20 frames", self.said)
+            parts = [data[place : place + 40] for place in range(0, 250, 40)]
+            names = ["a.wav", *(f"a-00{number}.wav" for number in range(2, 8))]
+            self.assertEqual([self.content(name) for name in names], list(map(by_hand, parts)))
+            self.run_command("record", "a.wav", "--append", *words, given=data)
+            self.assertEqual(self.content("a-007.wav"), by_hand(parts[-1] + data))
+            for name in names:
+                os.unlink(os.path.join(self.folder, name))
+
+    def test_record_takes_a_wav_stream(self):
+        """It is read by its header, whose length may be that of a program that doesn't know it, or right."""
+        data, form = SAMPLES.tobytes(), ["--rate", "8000", "--channels", "2", "--bits", "16"]
+        whole = made_by_wave(SAMPLES)
+        for counted in 0, 20, 0x7FFFF000, 0x80000000, 0xFFFFFFFF:
+            for words in form, form[2:], []:
+                self.run_command("record", "a.wav", *words, "--overwrite", given=by_hand(data, counted, channels=2))
+                self.assertEqual(self.content("a.wav"), whole)
+                self.assertNotIn(b"hound-wav: ", self.said)
+        self.run_command("record", "a.wav", "--append", given=whole)
+        self.assertEqual(self.content("a.wav"), made_by_wave(SAMPLES + SAMPLES))
+        chunks = by_hand(data, channels=2, before=CHUNK, between=CHUNK, after=CHUNK)
+        self.run_command("record", "b.wav", given=chunks)
+        self.assertEqual(self.content("b.wav"), whole)
+        odd = by_hand(b"\x81\x82\x83", width=1, after=b"\0" + CHUNK)
+        for stream in odd, odd[:-12], odd[:-13]:
+            self.run_command("record", "b.wav", "--overwrite", given=stream)
+            self.assertEqual(self.content("b.wav"), by_hand(b"\x81\x82\x83", width=1, after=b"\0"))
+        self.run_command("record", "b.wav", "--overwrite", given=by_hand(data, 8, channels=2))
+        self.assertEqual(self.content("b.wav"), whole)
+        self.assertIn(b"more came than the header of the stream counts, and is recorded, too", self.said)
+        floats = by_hand(struct.pack("<2f", 0.5, -0.25), 0, width=4, tag=3)
+        self.run_command("record", "b.wav", "--overwrite", given=floats)
+        self.assertEqual(list(hound.read(self.content("b.wav"))), [0.5, -0.25])
+        self.run_command("record", "b.wav", "--overwrite", "--split", "2", given=whole)
+        self.assertEqual(self.content("b-003.wav"), made_by_wave(SAMPLES[8:]))
+
+    def test_a_wav_stream_that_contradicts(self):
+        whole, form = made_by_wave(SAMPLES), ["--rate", "8000", "--channels", "2", "--bits", "16"]
+        self.leave_as("a.wav", b"mine")
+        for option, other in ("--rate", "8001"), ("--channels", "1"), ("--bits", "24"), ("--float", None):
+            words = [option] if other is None else [option, other]
+            self.run_command("record", "a.wav", "--overwrite", *words, given=whole, status=2)
+            self.assertIn(b"WAV stream of 8000 Hz, 2 channels, 16 bits, and not of " + option.encode(), self.said)
+        for stream in whole[:12], whole[:43], b"RIFX" + whole[4:], b"RF64" + whole[4:], whole.replace(b"fmt ", b"fmtx"):
+            self.run_command("record", "a.wav", "--overwrite", given=stream, status=1)
+        self.assertEqual(self.content("a.wav"), b"mine")
+        for stream in whole, b"RIFF", b"RIFF1234WAV", b"RIFF1234WAVX", b"RIFX1234", b"R", b"":
+            self.run_command("record", "a.wav", *form, "--raw", "--overwrite", given=stream + bytes(-len(stream) % 4))
+            self.assertEqual(self.content("a.wav")[44:], stream + bytes(-len(stream) % 4))
+            if stream != whole:
+                self.run_command("record", "a.wav", *form, "--overwrite", given=stream + bytes(-len(stream) % 4))
+                self.assertEqual(self.content("a.wav")[44:], stream + bytes(-len(stream) % 4))
+
+    def test_record_names_what_helps(self):
+        self.leave_as("a.wav", b"mine")
+        form = ["--channels", "1", "--bits", "16", "--rate"]
+        for words in [], ["--split", "9"]:
+            self.run_command("record", "a.wav", *form, "8000", *words, given=bytes(8), status=1)
+            said = b"hound-wav: a.wav exists: --append continues it, --overwrite empties it\n"
+            self.assertEqual((self.said, self.content("a.wav")), (said, b"mine"))
+        for rate, number in ("48k", 48000), ("44.1k", 44100), ("11.025k", 11025), ("8000", 8000):
+            self.run_command("record", "a.wav", *form, rate, "--overwrite", given=bytes(8))
+            self.assertEqual(hound.info(self.path).sample_rate, number)
+        for rate in "44.1", "k", "1.2345k", "44,1k", "-8k", "0k", "48K", "48kHz":
+            self.run_command("record", "a.wav", *form, rate, "--overwrite", given=bytes(8), status=2)
+
+    def test_nohup_keeps_a_recording(self):
+        form = ["--rate", "8000", "--channels", "2", "--bits", "16", "--checkpoint", "0.05"]
+        running = self.begun("record", "a.wav", *form, preexec_fn=lambda: signal.signal(signal.SIGHUP, signal.SIG_IGN))
+        running.stdin.write(SAMPLES.tobytes()[:8])
+        running.stdin.flush()
+        self.wait_for(2)
+        running.send_signal(signal.SIGHUP)
+        running.communicate(SAMPLES.tobytes()[8:], timeout=30)
+        self.assertEqual((running.returncode, self.content("a.wav")), (0, made_by_wave(SAMPLES)))
+
+    def on_a_terminal(self, *words, stdin=None, given=b""):
+        """What a command says on a terminal, as its standard error, and its status."""
+        outer, inner = pty.openpty()
+        env = {**os.environ, "PYTHONPATH": os.path.dirname(os.path.dirname(hound.__file__)), "COLUMNS": "100"}
+        running = subprocess.Popen(
+            [sys.executable, "-c", f"import time, hound_bindings.command as c; {HURRIED}", *words],
+            cwd=self.folder, env=env, stdin=inner if stdin is None else stdin, stdout=subprocess.PIPE, stderr=inner,
+        )  # fmt: skip
+        os.close(inner)
+        if stdin == subprocess.PIPE:
+            running.stdin.write(given)
+            running.stdin.close()
+        said = b""
+        with contextlib.suppress(OSError):  # The terminal has no other end any more.
+            while piece := os.read(outer, 1000):
+                said += piece
+        os.close(outer)
+        running.stdout.close()
+        return said, running.wait(60)
+
+    def test_record_on_a_terminal(self):
+        """A line shows what comes; without a pipe it says what it waits for."""
+        loud = array.array("h", [16384, -32768] * 4000)
+        form = ["--rate", "8000", "--channels", "2", "--bits", "16"]
+        said, status = self.on_a_terminal("record", "a.wav", *form, stdin=subprocess.PIPE, given=loud.tobytes())
+        self.assertEqual(status, 0)
+        self.assertRegex(said, rb"\r\x1b\[K0:00:00  -6\.0 0\.0 dB  checkpoint at 0:00:00  a\.wav: 0\.0 MiB")
+        self.assertRegex(said, rb"\r\x1b\[Ka\.wav: 8000 Hz, 2 channels, 16 bits, 4000 frames, 0\.500 s\r\n$")
+        self.run_command("record", "b.wav", *form, given=loud.tobytes())
+        self.assertEqual(self.said, b"b.wav: 8000 Hz, 2 channels, 16 bits, 4000 frames, 0.500 s\n")
+        said, status = self.on_a_terminal("record", "c.wav")
+        self.assertIn(b"--rate, --channels and --bits are needed, or a WAV stream in a pipe, as arecord ", said)
+        self.assertEqual((status, os.path.exists(os.path.join(self.folder, "c.wav"))), (2, False))
+
     @unittest.skipUnless(hasattr(signal, "SIGXFSZ"), "no limit of a file's size")
     def test_record_says_what_is_kept_where_a_write_fails(self):
         limited = (
@@ -680,11 +833,12 @@ class Command(Folder):
 
     def test_a_signal_while_no_input_comes(self):
         form = ("--rate", "8000", "--channels", "2", "--bits", "16", "--checkpoint", "100000")
-        for number in signal.SIGINT, signal.SIGTERM:
+        for number in signal.SIGINT, signal.SIGTERM, signal.SIGHUP:
+            self.leave_as("a.wav", b"")
             running = self.begun("record", "a.wav", *form, "--overwrite")
-            self.wait_for(0)
             running.stdin.write(SAMPLES.tobytes())
             running.stdin.flush()
+            self.wait_for(0)
             time.sleep(0.3)
             start = time.monotonic()
             running.send_signal(number)
@@ -717,27 +871,16 @@ class Command(Folder):
         self.assertEqual(found, frames)
 
     def test_a_bar_on_a_terminal(self):
-        pty = __import__("pty")
         self.leave_as("a.wav", wave_of(16, [1] * 3000))
-        for terminal in False, True:
-            outer, inner = pty.openpty()
-            hurried = (
-                "import time, hound_bindings.command as c; t = time.monotonic; n = iter(range(99)); "
-                "time.monotonic = lambda: t() + 5 * next(n); c.main(['cat', 'a.wav'])"
-            )
-            running = subprocess.Popen(
-                [sys.executable, "-c", hurried],
-                cwd=self.folder,
-                env={**os.environ, "PYTHONPATH": os.path.dirname(os.path.dirname(hound.__file__))},
-                stdout=subprocess.PIPE,
-                stderr=inner if terminal else subprocess.PIPE,
-            )
-            out, said = running.communicate(timeout=60)
-            os.close(inner)
-            if terminal:
-                said = os.read(outer, 1000)
-            os.close(outer)
-            self.assertEqual((len(out), b"100% a.wav" in said), (6000, terminal))
+        self.leave_as("b.wav", by_hand(bytes(6000), 0))
+        for words in ["cat", "a.wav"], ["convert", "a.wav", "c.wav"], ["join", "a.wav", "d.wav"]:
+            said, status = self.on_a_terminal(*words)
+            self.assertEqual((status, b"100% a.wav" in said), (0, True), said)
+        said, status = self.on_a_terminal("repair", "--copy", "b.wav")
+        self.assertEqual((status, b"b.wav" in said), (0, True), said)
+        for words in ["cat", "a.wav"], ["repair", "b.wav"]:
+            self.run_command(*words)
+            self.assertEqual(self.said, b"")
 
     def test_a_recording_in_parts(self):
         """Whatever the pieces are in which the samples come, and with a checkpoint in them."""
@@ -779,7 +922,8 @@ class Command(Folder):
         self.assertEqual(self.content("a-003.wav"), b"mine")
         for words in ["--split", "0"], ["--split", "2G"], ["--split", "-1"], ["--split", ""]:
             self.run_command("record", "b.wav", *form, *words, status=2)
-        self.run_command("record", "a.wav", "--append", "--split", "9", status=2)
+        for name in os.listdir(self.folder):
+            os.unlink(os.path.join(self.folder, name))
 
     def test_join(self):
         self.leave_as("a.wav", made_by_wave(SAMPLES))
