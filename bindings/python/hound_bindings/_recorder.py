@@ -14,8 +14,8 @@ from ._library import (
 )  # fmt: skip
 
 __all__ = [
-    "Recorder", "Recording", "begin", "beginning_of", "begun", "found_in", "repaired", "resumed", "walk_over",
-    "warn_of_rest",
+    "Recorder", "Recording", "begin", "beginning_of", "begun", "found_in", "frames_left", "repaired", "resumed",
+    "walk_over", "warn_of_rest",
 ]  # fmt: skip
 
 _INT = ctypes.c_int32
@@ -97,6 +97,11 @@ def resumed(found: CRepair, allowed: int) -> CRecorder:
     return recorder
 
 
+def frames_left(recorder: CRecorder) -> int:
+    """How many frames have room after those of a recorder."""
+    return int(_recorder_frames_left(ctypes.byref(recorder)))
+
+
 _REST = "so a repair may take for samples what its header doesn't count"
 
 
@@ -144,7 +149,7 @@ class Recorder(OneAtATime):
 
     def _frames_with_room(self) -> int:
         """How many frames have room after those in the file that is written."""
-        return int(_recorder_frames_left(ctypes.byref(self._state.recorder)))
+        return frames_left(self._state.recorder)
 
     def _request_block(self, count: int) -> None:
         """Requests the write of so many samples."""

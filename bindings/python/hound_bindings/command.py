@@ -39,14 +39,7 @@ _BLOCK = 1 << 16
 # What would end a line, or be more than text for a terminal, is written as Python does in a string.
 _ESCAPES = {code: repr(chr(code))[1:-1] for code in (*range(32), *range(127, 160), 0x2028, 0x2029)}
 _FLOAT_BITS = max(bits for bits, _ in FLOATS)
-# What many bytes are a multiple of if they are whole frames of each usual width.
-_ALL_WIDTHS = math.prod({width for _, width in INTEGERS + FLOATS})
-# How many bytes can be the first part of a file: whole frames of each usual width after a header of 44 or 68 bytes.
-_FIRST_PART = 44 + ((1 << 32) - 46) // _ALL_WIDTHS * _ALL_WIDTHS
-_HINTS = {
-    hound.Cause.TOO_LONG: f"repair a copy of the first part of a file that is too long (head -c {_FIRST_PART} FILE > "
-    f"PART.wav); record takes the rest as raw samples (tail -c +{_FIRST_PART + 1} FILE)",
-}
+_AS_GIVEN = "--as-given joins the files that are given, in their order"
 # What pipes a microphone into `record`.
 _MICROPHONE = (
     "arecord -t raw -f S16_LE -r 48000 -c 2 | hound-wav record take.wav --rate 48000 --channels 2 --bits 16"
@@ -119,20 +112,36 @@ def _each(names: List[str], call: Callable[[str], bool], failed: Callable[[str, 
     return status
 
 
-def _files_of(names: List[str]) -> List[str]:
+class _Found(NamedTuple):
+    """Files, and why folders couldn't be read in which there may be more."""
+
+    files: List[str]
+    faults: List[OSError]
+
+
+def _files_of(names: List[str]) -> _Found:
     """These files, and for each folder those in it and in its folders that are named as WAV files, but for pipes and
     devices: to read one may wait for ever."""
-    found = []
+    found = _Found([], [])
     for name in names:
         if os.path.isdir(name):
-            files = [os.path.join(folder, file) for folder, _, files in os.walk(name) for file in files]
+            walk = os.walk(name, onerror=found.faults.append)
+            files = [os.path.join(folder, file) for folder, _, files in walk for file in files]
             named = (file for file in files if file.lower().endswith((".wav", ".wave")))
-            found += sorted(file for file in named if os.path.isfile(file) or not os.path.exists(file))
+            found.files.extend(sorted(file for file in named if os.path.isfile(file) or not os.path.exists(file)))
         else:
-            found.append(name)
-    if not found:
+            found.files.append(name)
+    if not any(found):
         raise _Wrong("no file here is named .wav or .wave")
     return found
+
+
+def _each_of(found: _Found, call: Callable[[str], bool], failed: Callable[[str, str], None]) -> int:
+    """The same, of what is found in folders: each that couldn't be read has failed."""
+    status = _each(found.files, call, failed)
+    for fault in found.faults:
+        failed(fault.filename, _sentence(fault))
+    return status | bool(found.faults)
 
 
 def _print_json(**facts: Any) -> None:
@@ -257,7 +266,7 @@ def _info(options: argparse.Namespace) -> int:
             _say_what_is_counted(name, chunks)
         return found is None or found.state != hound.State.CUT_OFF
 
-    status = _each(_files_of(options.files), show, _failure(options))
+    status = _each_of(_files_of(options.files), show, _failure(options))
     if len(shown) > 1 and not options.json:
         frames, seconds = sum(info.frames for info in shown), sum(info.duration for info in shown)
         _say(f"{len(shown)} files: {frames} frames, {seconds:.3f} s")
@@ -316,6 +325,15 @@ def _recover(options: argparse.Namespace) -> int:
     return status
 
 
+def _hint_of_length(name: str) -> str:
+    """How a file that is longer than a header can count becomes two that can be repaired."""
+    start, end = repairs.first_part(name)
+    one, two = (shlex.quote(f"{os.path.splitext(name)[0]}.{part}.wav") for part in ("part1", "part2"))
+    name = shlex.quote(name)
+    rest = f"(head -c {start} {name}; tail -c +{end + 1} {name}) > {two}"
+    return f"head -c {end} {name} > {one} makes its first part, and {rest} the rest: repair both"
+
+
 def _repair(options: argparse.Namespace) -> int:
     if options.rate and not options.guess:
         raise _Wrong("--rate is that of --guess")
@@ -323,7 +341,7 @@ def _repair(options: argparse.Namespace) -> int:
         raise _Wrong("--skip is that of --like and --guess")
     if options.like or options.guess:
         return _recover(options)
-    names, hints = _files_of(options.files), {}
+    found_files, hints = _files_of(options.files), {}
 
     def repaired(name: str) -> Tuple[hound.Repair, Optional[lost.Chunks], Optional[str]]:
         """What is found of a file, which is opened once; and the name of its copy."""
@@ -344,7 +362,7 @@ def _repair(options: argparse.Namespace) -> int:
             found, chunks, copy = repaired(name)
         except hound.HoundError as error:
             if error.held is None:
-                hints[_HINTS.get(error.cause, _USUAL_HINT)] = True
+                hints[_hint_of_length(name) if error.cause == hound.Cause.TOO_LONG else _USUAL_HINT] = True
             raise
         if not options.json:
             _say_what_is_counted(name, chunks)
@@ -364,7 +382,7 @@ def _repair(options: argparse.Namespace) -> int:
 
     if not options.json:
         _say(f"{'found':18}{'frames':>11}{'counted':>11}{'seconds':>12}  file")
-    status = _each(names, repair, _failure(options))
+    status = _each_of(found_files, repair, _failure(options))
     for hint in [] if options.json else hints:
         _complain(hint)
     return status
@@ -475,27 +493,51 @@ def _form_of_all(names: List[str]) -> hound.Info:
     return infos[0]._replace(frames=sum(info.frames for info in infos))
 
 
-def _check_order(names: List[str]) -> None:
-    """An error where the first file of a recording comes after its second one, as by the shell's take*.wav."""
-    for place, name in enumerate(names):
-        second = parts.part_name(name, 2)
-        if second in names[:place]:
-            raise _Wrong(f"{name} comes before {second}: name it first")
+def _numbered(names: List[str]) -> Dict[int, str]:
+    """The files of a recording by their numbers; an error where one is of another recording, or is given twice."""
+    numbered: Dict[int, str] = {}
+    recording = parts.first_of(names[0])[0]
+    for name in names:
+        first, number = parts.first_of(name)
+        if os.path.abspath(first) != os.path.abspath(recording):
+            raise _Wrong(f"{name} is no part of {recording}: {_AS_GIVEN}")
+        if number in numbered:
+            raise _Wrong(f"{name} is given twice: {_AS_GIVEN}")
+        numbered[number] = name
+    return numbered
+
+
+def _all_parts(names: List[str]) -> List[str]:
+    """All files of the recording that these are of, by their numbers; or where one is given, all that it has. An error
+    where one is missing."""
+    numbered, recording = _numbered(names), parts.first_of(names[0])[0]
+    found = parts.parts_at(recording)
+    for number in range(1, max({*found, *numbered}) + 1):
+        name = parts.part_name(recording, number)
+        if number not in found:
+            raise ValueError(f"{name} is missing: {_AS_GIVEN}")
+        if number not in numbered and len(names) > 1:
+            raise _Wrong(f"{name} is there and isn't given: {_AS_GIVEN}, and {names[0]} alone all parts")
+    return list(found.values())
 
 
 def _join(options: argparse.Namespace) -> int:
-    if os.path.exists(options.target) and not options.overwrite:
-        raise _Wrong(f"{options.target} exists: --overwrite replaces it")
-    _check_order(options.files)
-    form = _form_of_all(options.files)
-    with files.replaced(options.target, options.durable) as part:
+    names, target = (options.files, options.output) if options.output else (options.files[:-1], options.files[-1])
+    if not names:
+        raise _Wrong("the new file is missing: join IN -o OUT")
+    if os.path.exists(target) and not options.overwrite:
+        raise _Wrong(f"{target} exists: --overwrite replaces it")
+    names = names if options.as_given else _all_parts(names)
+    form = _form_of_all(names)
+    with files.replaced(target, options.durable) as part:
         with hound.create(part, like=form, exclusive=True, durable=options.durable) as writer:
             if form.frames > writer.frames_left:
                 raise hound.HoundError(hound.Cause.TOO_LONG)
-            for name in options.files:
+            for name in names:
                 with hound.open(name) as reader:
                     for block in _blocks(name, reader, None):
                         writer.write(block)
+    _say(f"{target}: {len(names)} file{'s' * (len(names) != 1)}, {form.frames} frames, {form.duration:.3f} s")
     return 0
 
 
@@ -761,7 +803,7 @@ def _record_as(options: argparse.Namespace, source: _Input, form: hound.Info) ->
 
     def as_given(path: Any) -> str:
         """The name of a file beside the target, as that is given."""
-        name = os.path.join(folder, os.path.basename(path))
+        name: str = os.path.join(folder, os.path.basename(path))
         return name if os.path.abspath(name) == os.path.abspath(path) else str(path)
 
     try:
@@ -927,9 +969,15 @@ def _parser() -> argparse.ArgumentParser:
     add("--overwrite", help="replace OUT if it is there", **flag)
     add("--durable", help="sync what is written", **flag)
 
-    add = command("join", _join, "write the samples of files, one after the other, to a new one")
-    add("files", nargs="+", metavar="IN", type=_file, help="whole files of the same rate, channels and bits")
-    add("target", metavar="OUT", type=_file, help="gets its name when it is whole")
+    add = command("join", _join, "write the samples of a recording in parts to one new file")
+    words = (
+        "its first part, beside which the others are found, or all of them, in any order: whole files of the same rate, "
+        "channels and bits; without -o the last name is OUT"
+    )
+    add("files", nargs="+", metavar="IN", type=_file, help=words)
+    add("-o", "--output", metavar="OUT", type=_file, help="the new file, which gets its name when it is whole")
+    words = "join the files that are given, in their order, also if they are of several recordings or a part is missing"
+    add("--as-given", help=words, **flag)
     add("--overwrite", help="replace OUT if it is there", **flag)
     add("--durable", help="sync what is written", **flag)
 

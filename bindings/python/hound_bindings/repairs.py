@@ -11,11 +11,13 @@ from ._library import (
     FIND_DAMAGE, MAKE_CANONICAL, POINTER, REPAIR, REPAIR_TO_END, SIZE, U64, CRepair, Info, Path, Repair, State, checked,
     function, info_from, integer, named,
 )  # fmt: skip
-from ._recorder import repaired
+from ._recorder import frames_left, repaired, resumed
 from .files import info, replaced
+from .streams import Reader
 
 __all__ = [
-    "copied", "copy_name", "find_damage", "found_at", "header_of", "mends", "mode_of", "repair", "report_of",
+    "copied", "copy_name", "find_damage", "first_part", "found_at", "header_of", "mends", "mode_of", "repair",
+    "report_of",
 ]  # fmt: skip
 
 _sizes = function("sizes", POINTER, U64, U64, POINTER, SIZE)
@@ -112,6 +114,15 @@ def repair(
     if like is not None or copy is not None:
         return _repaired_copy(path, durable, to_end, canonical, copy, like, skip)
     return _repaired(path, mode_of(to_end, canonical), durable)
+
+
+def first_part(path: Path) -> Tuple[int, int]:
+    """Where the samples begin in a file that is longer than its header can count, and where as many whole frames end as
+    a file may have."""
+    with Reader(path, to_end=True) as reader:
+        spec, start = reader._spec, reader.info.data_start
+        found = CRepair(spec, state=State.WHOLE, data_start=start, length=start)
+        return start, start + frames_left(resumed(found, 0)) * reader._size
 
 
 def mode_of(to_end: bool, canonical: bool) -> int:

@@ -312,16 +312,33 @@ class Command(Folder):
 
     def test_a_file_that_is_too_long(self):
         """No header can count it: its first part can be repaired, as the hint says."""
-        self.leave_as("a.wav", by_hand(b"", channels=2))
-        os.truncate(self.path, (1 << 32) + 4000)
-        self.run_command("repair", "a.wav", status=1)
-        self.assertIn(b" 32 bits: a WAV file has less than 4 GiB, so the rest needs another one\n", self.said)
-        self.assertNotIn(b"--guess", self.said)
-        first, rest = map(int, re.search(rb"head -c (\d+) .*tail -c \+(\d+) ", self.said).groups())
-        self.assertEqual(rest, first + 1)
-        os.truncate(self.path, first)
-        self.run_command("repair", "a.wav")
-        self.assertEqual(hound.info(self.path).frames, (first - 44) // 4)
+        name = "a 1.wav"
+        for form, more in (
+            ({"channels": 2}, {}), ({"channels": 6, "width": 3}, {}), ({"channels": 3, "width": 1}, {"before": CHUNK}),
+            ({"channels": 7, "width": 3}, {"between": CHUNK}),
+        ):  # fmt: skip
+            head, size = by_hand(b"", 0, **form, **more), form["channels"] * form.get("width", 2)
+            most = ((1 << 32) - 1 - (len(head) - 8)) // size  # by the RIFF size
+            most -= (len(head) - 8 + most * size + most * size % 2) > (1 << 32) - 1  # which counts a pad byte, too
+            frame = bytes(range(1, size + 1))
+            self.leave_as(name, head)
+            with open(os.path.join(self.folder, name), "r+b") as file:
+                file.truncate(len(head) + (most - 9) * size)
+                file.seek(0, os.SEEK_END)
+                file.write(frame * 20)
+            self.run_command("repair", name, status=1)
+            self.assertIn(b" 32 bits: a WAV file has less than 4 GiB, so the rest needs another one\n", self.said)
+            self.assertNotIn(b"--guess", self.said)
+            end = len(head) + most * size
+            self.assertIn(f"head -c {end} 'a 1.wav' > 'a 1.part1.wav' makes its first part".encode(), self.said)
+            rest = re.search(rb"and (\(.*) the rest: repair both\n", self.said)[1]
+            subprocess.run(rest, shell=True, check=True, cwd=self.folder)
+            self.run_command("repair", "a 1.part2.wav")
+            self.assertEqual(self.content("a 1.part2.wav")[len(head) :][: 11 * size], frame * 11)
+            self.assertEqual(hound.info(os.path.join(self.folder, "a 1.part2.wav")).frames, 11)
+            os.truncate(os.path.join(self.folder, name), end)  # as head does
+            self.run_command("repair", name)
+            self.assertEqual(hound.info(os.path.join(self.folder, name)).frames, most)
 
     def test_a_number_that_is_too_large(self):
         self.leave_as("a.wav", bytes(100))
@@ -377,6 +394,31 @@ class Command(Folder):
         self.assertEqual(self.content("x/c.wav"), by_hand(b"\1\2" + CHUNK))
         self.leave_as("z/d.txt", b"")
         self.run_command("repair", "z", status=2)
+
+    def test_a_folder_that_can_t_be_read(self):
+        """It is named, and what can be read is done. Root may read all, so this is somebody else."""
+        for name in "x/a.wav", "y/b.wav", "z/z/c.wav":
+            self.leave_as(name, by_hand(bytes(8), 4))
+        os.chmod(self.folder, 0o755)
+        os.chmod(os.path.join(self.folder, "y"), 0)
+        os.chmod(os.path.join(self.folder, "z"), 0o644)
+        os.chmod(os.path.join(self.folder, "x/a.wav"), 0o666)
+        if os.geteuid() == 0:
+            nobody = {"preexec_fn": lambda: os.setresuid(65534, 65534, 65534)}
+        else:
+            nobody = {}
+        for words in ["info"], ["repair", "--dry-run"], ["repair"]:
+            out = self.run_command(*words, ".", status=1, **nobody)
+            self.assertIn(b"x/a.wav", out)
+            said = sorted(self.said.splitlines())
+            self.assertEqual(said[:2], [b"hound-wav: ./y: Permission denied", b"hound-wav: ./z/z: Permission denied"])
+        self.run_command("repair", "y", status=1, **nobody)
+        self.assertIn(b"hound-wav: y: Permission denied\n", self.said)
+        found = [json.loads(row) for row in self.run_command("info", "--json", "y", status=1, **nobody).splitlines()]
+        self.assertEqual(found, [{"file": "y", "error": "y: Permission denied"}])
+        self.assertEqual(self.content("x/a.wav"), by_hand(bytes(8)))
+        os.chmod(os.path.join(self.folder, "y"), 0o755)
+        os.chmod(os.path.join(self.folder, "z"), 0o755)
 
     def test_repair_of_what_is_all_counted(self):
         content, canonical = by_hand(b"\x81\x82\x83", width=1), by_hand(b"\x81\x82\x83", width=1, after=b"\0")
@@ -930,22 +972,55 @@ class Command(Folder):
         self.leave_as("a-002.wav", made_by_wave(SAMPLES[:4]))
         self.leave_as("mono.wav", made_by_wave(SAMPLES, channels=1))
         self.leave_as("cut.wav", made_by_wave(SAMPLES)[:-4])
-        self.run_command("join", "a.wav", "a-002.wav", "a-002.wav", "b.wav")
+        self.run_command("join", "a.wav", "a-002.wav", "a-002.wav", "b.wav", "--as-given")
         self.assertEqual(self.content("b.wav"), made_by_wave(SAMPLES + SAMPLES[:4] + SAMPLES[:4]))
+        self.run_command("join", "a-002.wav", "a.wav", "--as-given", "--output", "b.wav", "--overwrite")
+        self.assertEqual(self.content("b.wav"), made_by_wave(SAMPLES[:4] + SAMPLES))
         before = self.content("b.wav")
         for words, status, said in (
             (["a.wav", "b.wav"], 2, b"b.wav exists: --overwrite"),
-            (["a-002.wav", "a.wav", "c.wav"], 2, b"a.wav comes before a-002.wav"),
-            (["a.wav", "mono.wav", "c.wav"], 1, b"mono.wav has another form"),
-            (["a.wav", "cut.wav", "c.wav"], 1, b"cut.wav: "),
-            (["a.wav", "none.wav", "c.wav"], 1, b"none.wav: No such file"),
+            (["--as-given", "a.wav", "mono.wav", "c.wav"], 1, b"mono.wav has another form"),
+            (["--as-given", "a.wav", "cut.wav", "c.wav"], 1, b"cut.wav: "),
+            (["cut.wav", "-o", "c.wav"], 1, b"cut.wav: "),
+            (["--as-given", "a.wav", "none.wav", "c.wav"], 1, b"none.wav: No such file"),
+            (["none.wav", "-o", "c.wav"], 1, b"none.wav is missing"),
+            (["a.wav", "mono.wav", "c.wav"], 2, b"mono.wav is no part of a.wav: --as-given joins"),
+            (["a.wav", "a-002.wav", "./a-002.wav", "c.wav"], 2, b"./a-002.wav is given twice: --as-given"),
+            (["a.wav", "a-002.wav", "a-003.wav", "c.wav"], 1, b"a-003.wav is missing"),
+            (["c.wav"], 2, b"the new file is missing: join IN -o OUT"),
         ):
             self.run_command("join", *words, status=status)
             self.assertIn(said, self.said)
         self.assertEqual(self.content("b.wav"), before)
-        self.run_command("join", "b.wav", "a.wav", "b.wav", "--overwrite")
-        self.assertEqual(hound.info(os.path.join(self.folder, "b.wav")).frames, 14)
+        self.run_command("join", "b.wav", "a.wav", "b.wav", "--as-given", "--overwrite")
+        self.assertEqual(hound.info(os.path.join(self.folder, "b.wav")).frames, 12)
         self.assertEqual(len(os.listdir(self.folder)), 5)
+
+    def test_join_takes_parts_by_their_numbers(self):
+        """Also after the 999th one, in whatever order they are given, as by the shell's take*.wav."""
+        for number in range(1, 1006):
+            self.leave_as("a.wav" if number == 1 else f"a-{number:03}.wav", by_hand(struct.pack("<h", number)))
+        others = ["a-0007.wav", "a-7.wav", "b-002.wav", "a-002.repaired.wav"]
+        for name in others:
+            self.leave_as(name, b"")
+        parts = sorted(set(os.listdir(self.folder)) - set(others))
+        self.assertEqual(parts[:3] + parts[-1:], ["a-002.wav", "a-003.wav", "a-004.wav", "a.wav"])
+        whole = by_hand(struct.pack("<1005h", *range(1, 1006)))
+        for words in ["a.wav"], ["./a.wav"], ["a-007.wav"], parts, parts[::-1]:
+            out = self.run_command("join", *words, "-o", "all.wav", "--overwrite")
+            self.assertEqual((out, self.content("all.wav")), (b"all.wav: 1005 files, 1005 frames, 0.126 s\n", whole))
+        self.run_command("join", *parts, "all.wav", "--overwrite")
+        self.assertEqual(self.content("all.wav"), whole)
+        self.run_command("join", *parts[:-4], *parts[-3:], "-o", "b.wav", status=2)
+        self.assertIn(parts[-4].encode() + b" is there and isn't given", self.said)
+        os.unlink(os.path.join(self.folder, "a-1000.wav"))
+        for words in ["a.wav"], sorted(set(parts) - {"a-1000.wav"}):
+            self.run_command("join", *words, "-o", "b.wav", status=1)
+            self.assertIn(b"a-1000.wav is missing: --as-given joins the files that are given, in their order", self.said)
+        os.unlink(os.path.join(self.folder, "a.wav"))
+        self.run_command("join", "a-002.wav", "-o", "b.wav", status=1)
+        self.assertIn(b"a.wav is missing", self.said)
+        self.assertFalse(os.path.exists(os.path.join(self.folder, "b.wav")))
 
     def test_a_join_that_is_too_long(self):
         """It is an error before anything is written. The files are sparse."""
@@ -954,7 +1029,7 @@ class Command(Folder):
             file.write(by_hand(b"", 0, width=2)[:4] + struct.pack("<I", length + 36))
             file.write(by_hand(b"", 0, width=2)[8:40] + struct.pack("<I", length))
             file.truncate(length + 44)
-        self.run_command("join", "a.wav", "a.wav", "b.wav", status=1)
+        self.run_command("join", "a.wav", "a.wav", "b.wav", "--as-given", status=1)
         self.assertIn(b"would not fit in 32 bits", self.said)
         self.assertEqual(os.listdir(self.folder), ["a.wav"])
 
