@@ -14,8 +14,8 @@ from ._library import (
 )  # fmt: skip
 
 __all__ = [
-    "Recorder", "Recording", "begin", "beginning_of", "begun", "found_in", "frames_left", "repaired", "resumed",
-    "walk_over", "warn_of_rest",
+    "Recorder", "Recording", "add_to", "begin", "beginning_of", "begun", "found_in", "frames_left", "repaired",
+    "resumed", "walk_over", "warn_of_rest",
 ]  # fmt: skip
 
 _INT = ctypes.c_int32
@@ -243,12 +243,16 @@ class Recorder(OneAtATime):
     def _add_rest(self, error: OSError) -> None:
         """Adds to an error that the file couldn't be cut off either."""
         if self._has_rest and _REST not in str(error):
-            text = f"{error.strerror or error}, and the file couldn't be cut off, {_REST}"
-            error.errno, error.strerror = error.errno or errno.EIO, text
+            add_to(error, f"and the file couldn't be cut off, {_REST}")
 
     def _warn_of_rest(self) -> None:
         if self._has_rest:
             warn_of_rest(self._file.path)
+
+
+def add_to(error: OSError, words: str) -> None:
+    """Adds words to the text of an error."""
+    error.errno, error.strerror = error.errno or errno.EIO, f"{error.strerror or error}, {words}"
 
 
 def warn_of_rest(path: Any) -> None:

@@ -8,7 +8,7 @@ import errno
 import io
 import os
 import stat
-from typing import Any, Iterable, Iterator, Optional, Union
+from typing import Any, Iterable, Iterator, List, Optional, Union
 
 try:
     import fcntl
@@ -437,8 +437,15 @@ class File(Descriptor):
     locked."""
 
     folder: Optional[int] = None  # The descriptor of the folder that has its name, if that is open.
+    _file: Any = None
 
-    def __init__(self, path: Union[str, "os.PathLike[str]"], flags: int) -> None:
+    def __init__(
+        self, path: Union[str, "os.PathLike[str]"], flags: int, opened: Optional[List["File"]] = None
+    ) -> None:
+        """Opens the file. Before that it is added to `opened`: so who has that list can close it, whatever cuts this
+        call or the caller off."""
+        if opened is not None:
+            opened.append(self)
         self.path = path
         _check_no_pipe(path)
         # Where another file was renamed to the path before the lock, that one is opened. Some systems number a file
@@ -479,9 +486,10 @@ class File(Descriptor):
         closed by another call."""
         self.is_closed = True
         with contextlib.suppress(OSError):  # There was no lock.
-            if fcntl and is_unlocked and not self._file.closed:
+            if fcntl and is_unlocked and self._file and not self._file.closed:
                 fcntl.flock(self.descriptor, fcntl.LOCK_UN)
-        self._file.close()
+        if self._file:
+            self._file.close()
 
 
 def replace(part: str, name: str, older: Optional[File]) -> None:

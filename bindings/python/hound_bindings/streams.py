@@ -19,7 +19,7 @@ from ._library import (
     FIND_DAMAGE, FRONT_BYTES, HEADER_BYTES, OVERWRITE, POINTER, U64, Cause, CInfo, CRecorder, CSpec, Dtype,
     HoundError, Info, Path, check_header, checked, function, info_from, integer, name_error, named,
 )  # fmt: skip
-from ._recorder import Recorder, Recording, begin, begun, found_in, repaired, resumed, walk_over, warn_of_rest
+from ._recorder import Recorder, Recording, add_to, begin, begun, found_in, repaired, resumed, walk_over, warn_of_rest
 from .parts import check_next, check_no_part, part_name
 
 __all__ = ["Reader", "Writer", "append_to", "create", "open", "with_header"]
@@ -274,6 +274,13 @@ if hasattr(os, "register_at_fork"):
     os.register_at_fork(after_in_child=_unlock_readers)
 
 
+class _Attempt(NamedTuple):
+    """An attempt to make a next file: its name, and as what it was opened."""
+
+    path: str
+    opened: List[disk.File]
+
+
 class Writer(Recorder):
     """A file that is written block by block. It is a context manager, which closes it.
 
@@ -294,9 +301,9 @@ class Writer(Recorder):
 
     With `split` it continues in a next file where a block has no room, so a block is in one file, in whole frames. The
     next file is made, begun and locked before this one is ended. Where that fails, as at a name that is there, `write`
-    is the error, and the Writer is as before: all blocks are in their files, and it can be used or closed. A block that
-    is larger than a file may be is written as several: after an error those before the failed one are there, which
-    `tell` counts.
+    is the error, and the Writer is as before: all blocks are in their files, and it can be used or closed, which
+    removes a next file that has no samples yet. A block that is larger than a file may be is written as several: after
+    an error those before the failed one are there, which `tell` counts, and an OSError says how many frames they have.
 
     It belongs to the process that made it, since two would overwrite each other's blocks. In a forked process `write`
     and `flush` are a RuntimeError, and nothing is written or unlocked by `close`, the end of a `with` or of the
@@ -304,7 +311,7 @@ class Writer(Recorder):
     """
 
     _most: Optional[int] = None  # How many frames a file has at most, where the recording continues in a next one.
-    _attempted: Optional[str] = None  # The name of the next file, once a call has begun to make it.
+    _attempt: Optional[_Attempt] = None  # The last one to make a next file.
 
     def __init__(
         self, file: Union[disk.File, disk.Stream], spec: CSpec, recorder: CRecorder, durable: bool, dither: int
@@ -388,12 +395,26 @@ class Writer(Recorder):
         if given.count <= most * channels or given.count % channels:
             self._write(given)
             return
+        self._check_samples(given)
         while first * channels < given.count:
             self._running[1].clear()  # What is written of it stays.
             room = self.frames_left or most
-            with given.frames(first, room, channels) as part:
-                self._write(part)
+            try:
+                with given.frames(first, room, channels) as part:
+                    self._write(part)
+            except OSError as error:
+                if first > 0:
+                    add_to(error, f"and only the first {first} frames of {given.count // channels} are recorded")
+                raise
             first += room
+
+    def _check_samples(self, given: conversion.Given) -> None:
+        """An error where a sample of a block can't be encoded, before any of it is written."""
+        way = self._ways.of_given(given.dtype)
+        given.check(way, self._state.noise)
+        if not way.fits:
+            for _ in conversion.Encoder(way, self._state.noise).pieces(given, 0):
+                pass
 
     def _write(self, given: conversion.Given) -> None:
         state: Recording = self._state
@@ -441,8 +462,7 @@ class Writer(Recorder):
         try:
             self._checkpoint()
         except BaseException:
-            following._file.close()
-            self._remove(following.paths[0])
+            self._undo_attempt()
             raise
         before = self._state
         _WRITERS[self] = following._file
@@ -463,27 +483,32 @@ class Writer(Recorder):
         off has left a file without samples there."""
         path = part_name((*self._state.ended, self._file.path)[0], len(self._state.ended) + 2)
         _WRITERS[self] = self._file  # and no other one that a call had begun
-        is_left = self._attempted == path and _is_bare(path)
-        if not is_left:
-            check_no_part(path)
-        self._attempted = path
+        self._undo_attempt()
+        check_no_part(path)
+        attempt = self._attempt = _Attempt(path, [])
         try:
-            following = _create(path, self._spec, self._durable, not is_left, False)
+            following = _create(path, self._spec, self._durable, True, False, attempt.opened)
         except (FileExistsError, BlockingIOError):
-            self._attempted = None  # It is another program's.
+            self._attempt = None  # It is another program's.
             raise
         except (OSError, HoundError):
-            self._remove(path)
+            self._undo_attempt()
             raise
         following._process = None  # From now on its file is that of this Writer.
         return following
 
-    def _remove(self, path: Path) -> None:
-        """Removes the next file, which a call has made, if it can."""
+    def _undo_attempt(self) -> None:
+        """Closes and removes a next file that isn't written to, since the call that made it was cut off. What a
+        traceback holds of it would keep it open and locked."""
+        attempt = self._attempt
+        if attempt is None or attempt.path == self._file.path:
+            return
+        for file in attempt.opened:
+            file.close()
         with contextlib.suppress(OSError):
-            if _is_bare(path):
-                os.unlink(path)
-        self._attempted = None
+            if _is_bare(attempt.path):
+                os.unlink(attempt.path)
+        self._attempt = None
 
     @one_at_a_time
     def flush(self) -> None:
@@ -497,7 +522,11 @@ class Writer(Recorder):
             self._file.close(is_unlocked=False)
             return
         was_closed = self._file.is_closed
-        self._close()
+        try:
+            self._close()
+        finally:
+            if self._file.is_closed:
+                self._undo_attempt()
         if not was_closed:
             self._warn_of_rest()
 
@@ -558,7 +587,9 @@ def create(
 
     With `split` a file has at most so many frames, and never more than have room. The recording of `take.wav` continues
     in `take-002.wav`, `take-003.wav` and so on, each of which mustn't be there: of the second one that is looked at
-    first, of each before the file before it is ended.
+    first, of each before the file before it is ended. Names that would be too long, and a folder in which nothing can
+    be made, are errors before anything is recorded. All files are in the folder where a relative path is at this call,
+    and `paths` has their absolute names.
     """
     spec = conversion.spec_of(rate, channels, bits, bytes_per_sample, is_float, like)
     if split is None:
@@ -573,9 +604,16 @@ def create(
     return writer
 
 
-def _create(path: Union[Path, IO[bytes]], spec: CSpec, durable: bool, exclusive: bool, dither: int) -> Writer:
+def _create(
+    path: Union[Path, IO[bytes]],
+    spec: CSpec,
+    durable: bool,
+    exclusive: bool,
+    dither: int,
+    opened: Optional[List[disk.File]] = None,
+) -> Writer:
     """A Writer of a new file, whose header is stored. Where that fails it is closed, and writes nothing more."""
-    return with_header(_begun(path, spec, durable, exclusive, dither))
+    return with_header(_begun(path, spec, durable, exclusive, dither, opened))
 
 
 def with_header(writer: Writer) -> Writer:
@@ -589,7 +627,14 @@ def with_header(writer: Writer) -> Writer:
     return writer
 
 
-def _begun(path: Union[Path, IO[bytes]], spec: CSpec, durable: bool, exclusive: bool, dither: int) -> Writer:
+def _begun(
+    path: Union[Path, IO[bytes]],
+    spec: CSpec,
+    durable: bool,
+    exclusive: bool,
+    dither: int,
+    opened: Optional[List[disk.File]] = None,
+) -> Writer:
     """A Writer of a new file, with the checkpoint requested that stores the header: another request takes its place."""
     with named(path):
         recorder = begun(spec)
@@ -599,7 +644,7 @@ def _begun(path: Union[Path, IO[bytes]], spec: CSpec, durable: bool, exclusive: 
         begin(stream, spec, durable)
         return Writer(stream, spec, recorder, durable, dither)
     with disk.folder_of(path) if durable else contextlib.nullcontext() as folder:
-        file = disk.File(path, os.O_WRONLY | os.O_CREAT | (os.O_EXCL if exclusive else 0))
+        file = disk.File(path, os.O_WRONLY | os.O_CREAT | (os.O_EXCL if exclusive else 0), opened)
         try:
             file.folder = folder
             begin(file, spec, durable)

@@ -1309,32 +1309,98 @@ class Parts(Case):
                     break
             self.assertGreater(at, 4)
 
+    def test_what_is_found_before_a_recording_begins(self):
+        """Names of next files that are too long, and a folder in which none can be made."""
+        for length in 252, 251, 250:  # A name has at most 255 bytes, and -9999 comes to it.
+            name = os.path.join(self.folder, "a" * (length - 4) + ".wav")
+            if length > 250:
+                with self.assertRaises(OSError) as caught:
+                    hound.create(name, 8000, 2, 16, split=2)
+                self.assertEqual((caught.exception.errno, os.listdir(self.folder)), (errno.ENAMETOOLONG, []))
+                hound.create(name, 8000, 2, 16).close()  # It is alone.
+                os.unlink(name)
+            else:
+                with hound.create(name, 8000, 2, 16, split=2) as writer:
+                    writer.write(SAMPLES)
+                self.assertEqual(len(writer.paths), 3)
+        self.empty()
+        hound.create(self.path, 8000, 2, 16).close()
+        before = content_of(self.path)
+        os.chmod(self.path, 0o666)
+        os.chmod(self.folder, 0o555)
+
+        def create():
+            if os.geteuid() == 0:
+                os.setresuid(65534, 65534, 65534)
+            with self.assertRaises(PermissionError) as caught:
+                hound.create(self.path, 8000, 1, 8, split=2)
+            return caught.exception.filename == self.folder
+
+        self.assertEqual(os.waitpid(forked(create), 0)[1], 0)
+        os.chmod(self.folder, 0o755)
+        self.assertEqual(content_of(self.path), before)
+
+    def test_all_files_are_in_one_folder(self):
+        """Also where the program changes its own between them."""
+        self.addCleanup(os.chdir, os.getcwd())
+        os.chdir(self.folder)
+        for call in hound.create, hound.resume:
+            with call("a.wav", 8000, 2, 16, split=2) as writer:
+                writer.write(SAMPLES[:4])
+                os.chdir("/")
+                writer.write(SAMPLES[4:8])
+            count = len(os.listdir(self.folder))
+            self.assertEqual(writer.paths, list(map(self.named, range(1, count + 1))))
+            os.chdir(self.folder)
+        self.assertEqual(self.contents(), [made_by_wave(SAMPLES[first : first + 4]) for first in (0, 4, 0, 4)])
+
+    def test_a_block_that_is_larger_than_a_file_and_fails(self):
+        """What is in is said, and counted; a sample that can't be written is found before any is."""
+        with open(self.named(3), "wb") as other:
+            other.write(b"mine")
+        with hound.create(self.path, 8000, 2, 16, split=2) as writer:
+            with self.assertRaises(FileExistsError) as caught:
+                writer.write(SAMPLES)
+            self.assertEqual(caught.exception.strerror, "File exists, and only the first 4 frames of 5 are recorded")
+            self.assertEqual((writer.tell(), caught.exception.filename), (4, self.named(3)))
+        self.assertEqual(self.contents()[:2], [made_by_wave(SAMPLES[:4]), made_by_wave(SAMPLES[4:8])])
+        self.empty()
+        with hound.create(self.path, 8000, 2, 16, split=2) as writer:
+            for wide in array.array("i", [1] * 9 + [40000]), [1] * 9 + [40000]:
+                self.fails(Cause.TOO_WIDE, lambda: writer.write(wide))
+                self.assertEqual((writer.tell(), os.listdir(self.folder)), (0, ["a.wav"]))
+            writer.write(array.array("i", SAMPLES))
+        self.assertEqual(self.contents(), [made_by_wave(SAMPLES[i : i + 4]) for i in (0, 4, 8)])
+
     def test_a_write_that_is_interrupted_at_each_bytecode(self):
-        """The next ones continue: a block is there if its write returned, whichever file it is in."""
-        for durable in False, True:
+        """The next ones continue: a block is there if its write returned, whichever file it is in. Also within the
+        `except`, where the traceback holds what the call had; and where there is no next one no empty file is left."""
+        for durable, within, count in (False, True, 3), (False, False, 3), (False, True, 0), (True, True, 3):
             for at in itertools.count(1 + durable, 5 if durable else 1):
                 self.empty()
                 with warnings.catch_warnings():
                     warnings.simplefilter("ignore", ResourceWarning)  # A file is closed when it is collected.
-                    if self.interrupted(at, durable).place is None:
+                    if self.interrupted(at, durable, within, count).place is None:
                         break
             self.assertGreater(at, 500)
 
-    def interrupted(self, at, durable):
+    def interrupted(self, at, durable, within, count):
         writer = hound.create(self.path, 8000, 1, 16, split=2, durable=durable)
         writer.write(SAMPLES[:2])
-        is_done = False
+        is_done, error = False, None
         with Interruption(at) as interruption:
             try:
                 writer.write(SAMPLES[2:4])
                 is_done = True
-            except Interrupted:
-                pass
+            except Interrupted as caught:
+                error = caught if within else None
         is_done |= interruption.is_at_the_end()
-        for sample in SAMPLES[4:7]:
+        for sample in SAMPLES[4 : 4 + count]:
             writer.write(array.array("h", [sample]))
         writer.close()
-        wanted, found = SAMPLES[:2] + (SAMPLES[2:4] if is_done else SAMPLES[:0]) + SAMPLES[4:7], array.array("h")
+        del error
+        wanted = SAMPLES[:2] + (SAMPLES[2:4] if is_done else SAMPLES[:0]) + SAMPLES[4 : 4 + count]
+        found = array.array("h")
         for name in writer.paths:
             found += hound.read(name)
             self.assertEqual(hound.find_damage(name).state, hound.State.WHOLE)
