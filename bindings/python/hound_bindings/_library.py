@@ -122,10 +122,15 @@ _KINDS: Dict[int, str] = {
 
 
 
+# What a cause is advised on by: the cause, or where samples that are given have it, that with this word.
+Advice = Dict[Union[Cause, Tuple[Cause, str]], str]
+GIVEN = "given"
 # What can be done about a cause, by the names of this package.
-_ADVICE = {
+_ADVICE: Advice = {
     Cause.OTHER_FORMAT: 'dtype="float32" reads all that float32 holds, and "float64" everything',
-    Cause.TOO_WIDE: 'a wider dtype reads it, as "int32", and more bits hold it',
+    (Cause.OTHER_FORMAT, GIVEN): 'give floats, such as array.array("f", ..)',
+    Cause.TOO_WIDE: 'dtype="int32" reads it',
+    (Cause.TOO_WIDE, GIVEN): "bits={bits} holds more",
     Cause.TRUNCATED: "repair(path); open(file, to_end=True)",
     Cause.DATA_LENGTH: "repair(path); open(file, to_end=True)",
     Cause.FRAME_LENGTH: "repair(path); open(file, to_end=True)",
@@ -134,9 +139,19 @@ _ADVICE = {
 }
 
 
+# The number that the fmt chunk has of integers, and by what it may be rejected though FFmpeg reads such a file.
+_PCM = 1
+_ODD_HEADERS = (
+    Cause.UNEXPECTED_FMT_SIZE, Cause.INCONSISTENT, Cause.BITS_NOT_WHOLE_BYTES, Cause.BITS_NOT_8_OR_16,
+)  # fmt: skip
+
+
 class HoundError(ValueError):
     """A call failed, for this cause; `filename` is the name of the file, if it has one. Where its header was rejected,
     `kind` is the number of what it is, as `hound_kind` of hound.h has it, and the text names it."""
+
+    _role = ""  # GIVEN where the cause is in samples that are given, for a file of so many bits
+    _bits: Optional[int] = None  # or where no type reads the integers of a file, how many bits these have.
 
     def __init__(self, cause: Cause) -> None:
         super().__init__(cause)
@@ -147,28 +162,52 @@ class HoundError(ValueError):
     @property
     def held(self) -> Optional[str]:
         """The name of what the file holds, where it is known and isn't read."""
+        if self._bits and not self._role:
+            return f"integers of {self._bits} bits"
         return None if self.kind is None else _KINDS.get(self.kind)
+
+    def _of_given(self, bits: int) -> "HoundError":
+        """The same error, of samples that are given for a file of so many bits."""
+        self._role, self._bits = GIVEN, bits
+        return self
+
+    def _of_file(self, bits: int) -> "HoundError":
+        """The same error, of a file whose integers no type reads."""
+        self._bits = bits
+        return self
 
     def __str__(self) -> str:
         return self._said(_ADVICE)
 
-    def _said(self, advice: Dict[Cause, str]) -> str:
+    def _said(self, advice: Advice) -> str:
         """The text, with what can be done about some causes."""
         if self.held is None:
-            what = ": ".join(filter(None, (self.cause.sentence, advice.get(self.cause))))
+            what = ": ".join(filter(None, (self.cause.sentence, self._advised(advice))))
             return what if self.filename is None else f"{self.filename}: {what}"
+        holds = f"{self.filename or 'the file'} holds {self.held}, so it isn't read"
+        if self._bits not in (None, 64):
+            return f"{holds} ({self.cause.sentence})"  # No program is known that converts it.
+        return f"{holds}: convert it by {self._converting()} ({self.cause.sentence})"
+
+    def _advised(self, advice: Advice) -> Optional[str]:
+        """What can be done about the cause."""
+        if self.kind == _PCM and self.cause in _ODD_HEADERS:
+            return f"FFmpeg takes such a header ({self._converting()})"
+        if not self._role:
+            return advice.get(self.cause)
+        more = next((bits for bits, _ in INTEGERS if bits > (self._bits or 0)), None)
+        words = advice.get((self.cause, self._role), "")
+        return words.format(bits=more) if more or "{" not in words else None
+
+    def _converting(self) -> str:
+        """The command that converts a file, and keeps what it holds: what a number of a format names has at most 16
+        bits, but for PCM. FFmpeg 5.1 makes noise of RIFX, since it takes its bytes in the other order."""
         name = self.filename or "FILE"
         name = "FILE" if name.startswith("<") else name  # It is that of a stream.
-        command = self._converting(shlex.quote(name), shlex.quote(os.path.splitext(name)[0] + ".pcm.wav"))
-        holds = f"{self.filename or 'the file'} holds {self.held}, so it isn't read"
-        return f"{holds}: convert it by {command} ({self.cause.sentence})"
-
-    def _converting(self, source: str, target: str) -> str:
-        """The command that converts a file, and keeps what it holds: what a number of a format names has at most 16
-        bits. FFmpeg 5.1 makes noise of RIFX, since it takes its bytes in the other order."""
+        source, target = shlex.quote(name), shlex.quote(os.path.splitext(name)[0] + ".pcm.wav")
         if self.kind == KIND_RIFX:
             return f"sox {source} -L {target}"
-        is_narrow = self.kind is not None and self.kind < 1 << 16
+        is_narrow = self.kind is not None and _PCM < self.kind < 1 << 16
         codec = "pcm_f32le" if self.kind == KIND_FLOAT64 else "pcm_s16le" if is_narrow else "pcm_s32le"
         return f"ffmpeg -i {source} -c:a {codec} {target}"
 

@@ -23,7 +23,7 @@ from typing import Any, Callable, Dict, Iterator, List, NamedTuple, Optional, Tu
 import hound_bindings as hound
 
 from . import conversion, disk, files, lost, parts, repairs
-from ._library import FIND_DAMAGE, FLOATS, HEADER_BYTES, INTEGERS, CRepair, described, named
+from ._library import FIND_DAMAGE, FLOATS, HEADER_BYTES, INTEGERS, Advice, CRepair, described, named
 
 __all__ = ["main"]
 
@@ -51,16 +51,16 @@ _RECORDING = f"""To record a microphone by ALSA, FFmpeg or SoX:
 # The rate of a guess that isn't given.
 _USUAL_RATE = 48000
 # What can be done about a cause, by the names of this command.
-_ADVICE = {
+_ADVICE: Advice = {
     hound.Cause.OTHER_FORMAT: "--type float32, or float64",
-    hound.Cause.TOO_WIDE: "a wider --type reads it, as int32, and more --bits hold it",
+    hound.Cause.TOO_WIDE: "--type int32 reads it",
     hound.Cause.TRUNCATED: "hound-wav repair, or --to-end",
     hound.Cause.DATA_LENGTH: "hound-wav repair, or --to-end",
     hound.Cause.FRAME_LENGTH: "hound-wav repair, or --to-end",
     hound.Cause.NEEDS_MEND: "hound-wav repair",
     hound.Cause.TOO_LONG: "a WAV file has less than 4 GiB, so the rest needs another one",
 }
-_USUAL_HINT = "where a header is lost or damaged, --guess or --like makes a copy with a new one"
+_USUAL_HINT = "where a header is lost or damaged, hound-wav repair --guess or --like makes a copy with a new one"
 
 
 _Shown = TypeVar("_Shown", bound="_Line")
@@ -266,11 +266,38 @@ def _info(options: argparse.Namespace) -> int:
             _say_what_is_counted(name, chunks)
         return found is None or found.state != hound.State.CUT_OFF
 
-    status = _each_of(_files_of(options.files), show, _failure(options))
+    status = _each_with_hints(_files_of(options.files), show, options)
     if len(shown) > 1 and not options.json:
         frames, seconds = sum(info.frames for info in shown), sum(info.duration for info in shown)
         _say(f"{len(shown)} files: {frames} frames, {seconds:.3f} s")
     return status
+
+
+def _each_with_hints(found: _Found, call: Callable[[str], bool], options: argparse.Namespace) -> int:
+    """The status after a call for each file. At the end it is said what can be done about headers that were rejected."""
+    hints: Dict[str, None] = {}
+
+    def noting(name: str) -> bool:
+        try:
+            return call(name)
+        except hound.HoundError as error:
+            if error.held is None:
+                hints[_hint_of_length(name) if error.cause == hound.Cause.TOO_LONG else _USUAL_HINT] = None
+            raise
+
+    status = _each_of(found, noting, _failure(options))
+    for hint in [] if options.json else hints:
+        _complain(hint)
+    return status
+
+
+def _hint_of_length(name: str) -> str:
+    """How a file that is longer than a header can count becomes two that can be repaired."""
+    start, end = repairs.first_part(name)
+    one, two = (shlex.quote(f"{os.path.splitext(name)[0]}.{part}.wav") for part in ("part1", "part2"))
+    name = shlex.quote(name)
+    rest = f"(head -c {start} {name}; tail -c +{end + 1} {name}) > {two}"
+    return f"head -c {end} {name} > {one} makes its first part, and {rest} the rest: repair both"
 
 
 def _failure(options: argparse.Namespace) -> Callable[[str, str], None]:
@@ -283,20 +310,28 @@ def _failure(options: argparse.Namespace) -> Callable[[str, str], None]:
 # repair
 
 
-def _has_header(name: str) -> bool:
-    with contextlib.suppress(hound.HoundError):
+def _has_header(name: str, is_of_folder: bool) -> bool:
+    """Whether the header of a file is there. In a folder one that holds something else is an error."""
+    try:
         return hound.info(name).data_start > 0
-    return False
+    except hound.HoundError as error:
+        if is_of_folder and error.held:
+            raise
+        return False
 
 
 def _recover(options: argparse.Namespace) -> int:
-    """Makes copies of files whose header is lost."""
+    """Makes copies of files whose header is lost: in a folder, of those alone."""
 
     assumed: List[str] = []
+    found_files, given = _files_of(options.files), set(options.files)
 
     def recover(name: str) -> bool:
         disk.opened(name).close()  # A pipe is an error.
-        if options.guess and _has_header(name):
+        is_of_folder = name not in given
+        if (options.guess or is_of_folder) and _has_header(name, is_of_folder):
+            if is_of_folder:
+                return True
             raise ValueError(f"{name}: its header isn't lost, so nothing is guessed")
         guessed = hound.guess(name, skip=options.skip, rate=options.rate or _USUAL_RATE) if options.guess else None
         form, copy = guessed or options.like, repairs.copy_name(name)
@@ -319,19 +354,10 @@ def _recover(options: argparse.Namespace) -> int:
             assumed.append(name)
         return True
 
-    status = _each(options.files, recover, _failure(options))
+    status = _each_of(found_files, recover, _failure(options))
     if assumed:
         _complain(f"{_USUAL_RATE} Hz is assumed, since no guess finds a rate: --rate HZ is that of your recorder")
     return status
-
-
-def _hint_of_length(name: str) -> str:
-    """How a file that is longer than a header can count becomes two that can be repaired."""
-    start, end = repairs.first_part(name)
-    one, two = (shlex.quote(f"{os.path.splitext(name)[0]}.{part}.wav") for part in ("part1", "part2"))
-    name = shlex.quote(name)
-    rest = f"(head -c {start} {name}; tail -c +{end + 1} {name}) > {two}"
-    return f"head -c {end} {name} > {one} makes its first part, and {rest} the rest: repair both"
 
 
 def _repair(options: argparse.Namespace) -> int:
@@ -341,7 +367,7 @@ def _repair(options: argparse.Namespace) -> int:
         raise _Wrong("--skip is that of --like and --guess")
     if options.like or options.guess:
         return _recover(options)
-    found_files, hints = _files_of(options.files), {}
+    found_files = _files_of(options.files)
 
     def repaired(name: str) -> Tuple[hound.Repair, Optional[lost.Chunks], Optional[str]]:
         """What is found of a file, which is opened once; and the name of its copy."""
@@ -358,12 +384,7 @@ def _repair(options: argparse.Namespace) -> int:
             return found, chunks, copy
 
     def repair(name: str) -> bool:
-        try:
-            found, chunks, copy = repaired(name)
-        except hound.HoundError as error:
-            if error.held is None:
-                hints[_hint_of_length(name) if error.cause == hound.Cause.TOO_LONG else _USUAL_HINT] = True
-            raise
+        found, chunks, copy = repaired(name)
         if not options.json:
             _say_what_is_counted(name, chunks)
         is_mended = repairs.mends(found.state, options.to_end, options.canonical)
@@ -382,10 +403,7 @@ def _repair(options: argparse.Namespace) -> int:
 
     if not options.json:
         _say(f"{'found':18}{'frames':>11}{'counted':>11}{'seconds':>12}  file")
-    status = _each_of(found_files, repair, _failure(options))
-    for hint in [] if options.json else hints:
-        _complain(hint)
-    return status
+    return _each_with_hints(found_files, repair, options)
 
 
 # cat and convert
@@ -931,7 +949,8 @@ def _parser() -> argparse.ArgumentParser:
 
     words = "repair files whose recording was cut off, in place: copy what can't be replaced, or use --copy"
     add = command("repair", _repair, words)
-    add("files", nargs="+", metavar="FILE", type=_file, help="or a folder, of whose .wav files a table is printed")
+    words = "or a folder, of whose .wav files a table is printed; with --guess and --like those without a header are meant"
+    add("files", nargs="+", metavar="FILE", type=_file, help=words)
     add("--dry-run", help="only say what would be repaired: then the status of a file that would be is 1", **flag)
     add("--to-end", help="take chunks after the data for samples, too", **flag)
     words = "of a file whose frames are all counted, too, write the RIFF size and the pad byte as the format asks"
@@ -949,7 +968,11 @@ def _parser() -> argparse.ArgumentParser:
     )
     add("--skip", type=_from(0), metavar="BYTES", help=words)
 
-    add = command("cat", _cat, "write raw samples to standard output: int16, int32 where they are wider, or float32")
+    words = (
+        "write raw samples to standard output: integers as int16, or as int32 where they have more bits, and floats as "
+        "float32. No sample is shifted: 24 bits go from -8388608 to 8388607"
+    )
+    add = command("cat", _cat, words)
     add("files", nargs="+", metavar="FILE", help="- is standard input")
     add("--type", choices=conversion.READ_TYPES, help="of the samples; floats have the full scale 1")
     stream = {"help": "read all that follows the header, as of a stream that doesn't know its length", **flag}

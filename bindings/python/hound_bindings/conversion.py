@@ -11,7 +11,8 @@ from typing import (
 )  # fmt: skip
 
 from ._library import (
-    POINTER, SIZE, SPARE, Cause, CSpec, HoundError, Info, address, checked, function, integer,
+    INTEGERS, POINTER, SIZE, SPARE, Cause, CSpec, HoundError, Info, address, check_header, checked, function,
+    integer,
 )  # fmt: skip
 
 __all__ = [
@@ -298,9 +299,15 @@ class Room:
         return _shaped(self._array, self.way.channels, always_2d)
 
 
-def check_readable(way: Way) -> int:
-    """A code: whether the samples of a file are read so."""
-    return int(_decode[way.decodes](way.spec, SPARE, 0, SPARE, 0))
+def check_readable(way: Way, front: Callable[[], bytes]) -> None:
+    """An error where the samples of a file, which begins with these bytes, aren't read so."""
+    try:
+        check_header(int(_decode[way.decodes](way.spec, SPARE, 0, SPARE, 0)), front)
+    except HoundError as error:
+        raise error._of_file(way.bits) if way.bits > _MOST_BITS else error
+
+
+_MOST_BITS = max(bits for bits, _ in INTEGERS)
 
 
 def decoded(content: bytes, count: int, spec: CSpec) -> "array.array[Any]":
@@ -365,6 +372,13 @@ def warn_caller(sentence: str) -> None:
     warnings.warn(sentence, RuntimeWarning, level)
 
 
+def _encoded(code: Any, way: Way) -> int:
+    """A code of a call that encodes, whose error is one of the samples that are given."""
+    if code < 0:
+        raise HoundError(Cause(-code))._of_given(way.bits)  # type: ignore[call-arg]
+    return int(code)
+
+
 class Encoder:
     """What encodes samples for a file. Of floats whose full scale is 1 `clipped` counts those that the integers of the
     file don't hold. With the state of some noise, which becomes that for the next ones, each gets noise of a triangular
@@ -386,13 +400,13 @@ class Encoder:
         """Stores the bytes of so many samples at an address, and returns how many there are."""
         way, stored = self._way, (self._out, len(self._out))
         if not way.is_scaled:
-            return checked(_encode[way.encodes](way.spec, start, count, *stored))
+            return _encoded(_encode[way.encodes](way.spec, start, count, *stored), way)
         clipped = ctypes.c_uint64()
         if self._noise is None:
-            used = checked(_FROM_SCALED[way.dtype](way.spec, start, count, *stored, ctypes.byref(clipped)))
+            used = _encoded(_FROM_SCALED[way.dtype](way.spec, start, count, *stored, ctypes.byref(clipped)), way)
         else:
             noise = ctypes.byref(self._noise)
-            used = checked(_DITHER[way.dtype](way.spec, start, count, noise, *stored, ctypes.byref(clipped)))
+            used = _encoded(_DITHER[way.dtype](way.spec, start, count, noise, *stored, ctypes.byref(clipped)), way)
         self.clipped += clipped.value
         return used
 
@@ -435,13 +449,18 @@ class Encoder:
             warn_caller(f"{self.clipped} of {count} samples were clipped")
 
 
+def _too_wide() -> HoundError:
+    """The error of a sample that is given, and that no file holds."""
+    return HoundError(Cause.TOO_WIDE)._of_given(_MOST_BITS)
+
+
 def _rounded(start: Any, count: int) -> "array.array[float]":
     """The float32 that are nearest to float64 at an address; an error where one would be infinite and the sample
     isn't."""
     floats, infinite = _zeros("f", count), ctypes.c_uint64()
     checked(_f64_to_f32(start, count, _start(floats), count, ctypes.byref(infinite)))
     if infinite.value:
-        raise HoundError(Cause.TOO_WIDE)
+        raise _too_wide()
     return floats
 
 
@@ -452,7 +471,7 @@ def _array_of(samples: Any) -> Any:
     except TypeError:
         return array.array("d", samples)
     except OverflowError:
-        raise HoundError(Cause.TOO_WIDE) from None
+        raise _too_wide() from None
 
 
 def _buffer_of(samples: Any) -> Any:
@@ -481,6 +500,7 @@ class Given:
 
     def __init__(self, samples: Any, name: str = "samples") -> None:
         self._name, self.view = name, memoryview(_buffer_of(samples))
+        self.has_type = not isinstance(samples, (list, tuple)) or len(samples) > 0
         view = self.view
         self.dtype, self.columns = form_of(view, name, GIVEN)
         self.count = view.nbytes // view.itemsize
@@ -537,4 +557,4 @@ class Given:
         try:
             return array.array("h" if self.dtype == "int8" else "i", samples)
         except OverflowError:
-            raise HoundError(Cause.TOO_WIDE) from None
+            raise _too_wide() from None

@@ -66,6 +66,8 @@ def read(
     out: Any = None,
 ) -> Any:
     """Reads frames from number `start` on, at most so many (all where it is -1), and returns their samples.
+    Integers keep their values with each type, where soundfile shifts them to the left: of a file of 24 bits 1 is 1 as
+    int32, and not 256.
 
     They are an `array.array` of interleaved samples; with `always_2d` a memoryview of frames by channels. `dtype` is
     "int8", "int16", "int32", "float32" or "float64"; without it, it is the narrowest from 16 bits on that reads the
@@ -152,7 +154,7 @@ class _Whole:
         way, noise = conversion.Way(given.dtype, spec), conversion.noise_of(dither)
         given.check(way, noise)
         self._encoder = conversion.Encoder(way, noise)
-        if given.count == 0:
+        if given.count == 0 and given.has_type:
             self._encoder.piece(SPARE, 0)  # An error where the type isn't written.
 
     def put(self, put: Callable[[Any, int], None]) -> None:

@@ -8,8 +8,8 @@ from typing import IO, Any, Iterator, Optional, Tuple, Union
 
 from . import conversion, disk, lost
 from ._library import (
-    FIND_DAMAGE, MAKE_CANONICAL, POINTER, REPAIR, REPAIR_TO_END, SIZE, U64, CRepair, Info, Path, Repair, State, checked,
-    function, info_from, integer, named,
+    FIND_DAMAGE, MAKE_CANONICAL, POINTER, REPAIR, REPAIR_TO_END, SIZE, U64, CRepair, HoundError, Info, Path, Repair, State,
+    checked, function, info_from, integer, name_error, named,
 )  # fmt: skip
 from ._recorder import frames_left, repaired, resumed
 from .files import info, replaced
@@ -141,7 +141,10 @@ def _repaired_part(part: str, durable: bool, to_end: bool, canonical: bool) -> R
         report, sizes = report_of(found), ctypes.create_string_buffer(8)
         if mends(report.state, to_end, canonical):
             samples = found.frames * found.spec.channels
-            file.cut(checked(_sizes(ctypes.byref(found.spec), found.data_start, samples, sizes, len(sizes))))
+            after = found.data_start + samples * found.spec.bytes_per_sample
+            end = checked(_sizes(ctypes.byref(found.spec), found.data_start, samples, sizes, len(sizes)))
+            file.put(bytes(end - after), after)  # The pad byte, where a byte of a torn frame may be.
+            file.cut(end)
             file.sync(durable)
         return report
 
@@ -150,7 +153,11 @@ def copied(file: disk.Descriptor, copy: Path, durable: bool, to_end: bool, canon
     """Repairs a copy of a file, which gets this name once it is whole."""
     with replaced(copy, durable) as part:
         lost.copy(file, part)
-        return _repaired_part(part, durable, to_end, canonical)
+        try:
+            return _repaired_part(part, durable, to_end, canonical)
+        except HoundError as error:  # It is that of what the file holds.
+            name_error(error, file.name)
+            raise
 
 
 def _repaired_copy(

@@ -17,7 +17,7 @@ from . import conversion, disk
 from ._calls import OneAtATime, one_at_a_time
 from ._library import (
     FIND_DAMAGE, FRONT_BYTES, HEADER_BYTES, OVERWRITE, POINTER, U64, Cause, CInfo, CRecorder, CSpec, Dtype,
-    HoundError, Info, Path, check_header, checked, function, info_from, integer, name_error, named,
+    HoundError, Info, Path, checked, function, info_from, integer, name_error, named,
 )  # fmt: skip
 from ._recorder import Recorder, Recording, add_to, begin, begun, found_in, repaired, resumed, walk_over, warn_of_rest
 from .parts import check_next, check_no_part, part_name
@@ -220,7 +220,7 @@ class Reader(OneAtATime):
         frames = integer("frames", frames, -1, sys.maxsize)
         room = conversion.room_of(out).bound(self._ways, dtype)
         if room.way not in self._checked:  # Whether the type reads the file is known before a byte is taken.
-            check_header(conversion.check_readable(room.way), lambda: self._front)
+            conversion.check_readable(room.way, lambda: self._front)
             self._checked.add(room.way)
         frame = self._state.frame
         left = min(self._most - frame, room.most)

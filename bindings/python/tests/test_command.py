@@ -3,6 +3,7 @@ import array
 import contextlib
 import fractions
 import io
+import itertools
 import json
 import math
 import os
@@ -144,7 +145,10 @@ class Lost(Folder):
                 with self.assertRaises(OSError) as caught:
                     hound.repair(self.path, like=Info(8000, 1, 16), **more)
                 self.assertEqual(caught.exception.filename, self.path)
-        self.fails(hound.Cause.NO_RIFF_TAG, lambda: hound.repair(self.path, copy=self.path + "2"))
+        with self.assertRaises(hound.HoundError) as caught:
+            hound.repair(self.path, copy=self.path + "2")
+        # The file that is there is named.
+        self.assertEqual((caught.exception.cause, caught.exception.filename), (hound.Cause.NO_RIFF_TAG, self.path))
         self.assertEqual(os.listdir(os.path.dirname(self.path)), ["a.wav"])
 
 
@@ -451,6 +455,13 @@ class Command(Folder):
         self.assertIn(b"a.wav  repaired: a.repaired.wav\n", self.run_command("repair", "--copy", "a.wav"))
         self.assertEqual(self.content("a.repaired.wav"), by_hand(bytes(24), channels=3))
         self.assertEqual(self.content("a.wav"), by_hand(bytes(27), 0, channels=3))
+        for frames, torn in itertools.product(range(1, 5), range(1, 3)):  # The pad byte is none of the torn frame.
+            content = by_hand(b"\x7f" * (3 * frames + torn), 0, width=3)
+            self.leave_as("b.wav", content)
+            self.run_command("repair", "--copy", "b.wav")
+            whole = by_hand(b"\x7f" * 3 * frames, width=3, after=b"\0" * (frames % 2))
+            self.assertEqual((self.content("b.repaired.wav"), self.content("b.wav")), (whole, content))
+            os.unlink(os.path.join(self.folder, "b.repaired.wav"))
 
     def test_what_isn_t_read_is_named(self):
         self.leave_as("x/a.wav", b"fLaC" + bytes(60))
@@ -490,6 +501,40 @@ class Command(Folder):
         self.assertEqual(self.said, b"")
         self.run_command("info", "a.wav")
         self.assertEqual(self.said, b"")
+
+    def test_what_helps_where_a_header_is_lost(self):
+        self.leave_as("x/a.wav", bytes(100))
+        hint = b"hound-wav: where a header is lost or damaged, hound-wav repair --guess or --like makes a copy with a new "
+        for words in ["info"], ["repair"]:
+            self.run_command(*words, "x", "x/a.wav", status=1)
+            self.assertEqual(self.said, 2 * b"hound-wav: x/a.wav: no RIFF tag found\n" + hint + b"one\n")
+            self.run_command(*words, "--json", "x", status=1)
+            self.assertEqual(self.said, b"")
+        for content in made_by_wave(SAMPLES), by_hand(bytes(8), 4), b"fLaC" + bytes(60):
+            self.leave_as("x/a.wav", content)
+            for words in ["info"], ["repair"]:
+                self.begun(*words, "x").communicate(timeout=60)
+                self.assertNotIn(b"where a header is lost", self.begun(*words, "x").communicate(timeout=60)[1])
+
+    def test_guesses_of_a_folder(self):
+        """Those without a header: what has one is passed over."""
+        data = b"".join(stored(sample, 16, False) for sample in tones(2, 5000, random.Random(1)))
+        lost_one, whole = bytes(44) + data, made_by_wave(array.array("h", data))
+        for name, content in ("x/a.wav", lost_one), ("x/b.wav", whole), ("x/y/c.wav", lost_one), ("x/d.txt", lost_one):
+            self.leave_as(name, content)
+        out = self.run_command("repair", "--guess", "--rate", "8000", "--dry-run", "x").splitlines()
+        self.assertEqual([line.split(b":")[0] for line in out], [b"x/a.wav", b"x/y/c.wav"])
+        for words in ["--guess", "--rate", "8000"], ["--like", "8k,2,16", "--skip", "44"]:
+            self.run_command("repair", *words, "x")
+            for name in "x/a.repaired.wav", "x/y/c.repaired.wav":
+                self.assertEqual(self.content(name), whole)
+                os.unlink(os.path.join(self.folder, name))
+        self.assertEqual(len(os.listdir(os.path.join(self.folder, "x"))), 4)
+        self.leave_as("x/e.wav", b"fLaC" + bytes(60000))
+        self.run_command("repair", "--guess", "x", status=1)
+        self.assertIn(b"x/e.wav holds FLAC, so it isn't read", self.said)
+        self.run_command("repair", "--guess", "x/b.wav", status=1)
+        self.assertIn(b"its header isn't lost", self.said)
 
     def test_repair_of_a_lost_header(self):
         data = b"".join(stored(sample, 16, False) for sample in tones(2, 5000, random.Random(1)))
@@ -1037,6 +1082,10 @@ class Command(Folder):
         self.assertIn(b"status 0", self.run_command("--help"))
         for name in "info", "repair", "cat", "convert", "join", "record":
             self.assertIn(b"usage: hound-wav " + name.encode(), self.run_command(name, "--help"))
+        said = b" ".join(self.run_command("cat", "--help").split())
+        self.assertIn(b"No sample is shifted: 24 bits go from -8388608 to 8388607.", said)
+        said = b" ".join(self.run_command("record", "--help").split())
+        self.assertIn(b"arecord -t raw -f S16_LE -r 48000 -c 2 | hound-wav record take.wav --rate 48000", said)
         self.assertEqual(self.run_command("--version"), f"hound-wav {hound.__version__}\n".encode())
         self.run_command(status=2)
         self.run_command("info", status=2)

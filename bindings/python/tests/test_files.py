@@ -139,7 +139,7 @@ class Files(unittest.TestCase):
     def test_errors_say_what_to_do(self):
         """The call that an error names is the right one."""
         wide = hound.to_bytes(array.array("i", [1 << 20]), 8000, bits=24)
-        with self.assertRaisesRegex(HoundError, ': a wider dtype reads it, as "int32", and more bits hold it$'):
+        with self.assertRaisesRegex(HoundError, ': dtype="int32" reads it$'):
             hound.read(wide, dtype="int16")
         self.assertEqual(hound.read(wide, dtype="int32"), array.array("i", [1 << 20]))
         floats = hound.to_bytes([0.5], 8000, bits=32)
@@ -287,8 +287,8 @@ class Files(unittest.TestCase):
                 self.assertEqual((found.counted, found.added), (counted, max(5 - counted, 0)))
                 self.assertEqual(found.info, (8000, channels, 8 * width, False, 5, 44, width))
                 self.assert_file(torn)
-                pad = data[5 * size : 5 * size + 1] or b"\0"
-                right = by_hand(data[: 5 * size], after=pad[: 5 * size % 2], channels=channels, width=width)
+                pad = bytes(5 * size % 2)  # and no byte of the torn frame
+                right = by_hand(data[: 5 * size], after=pad, channels=channels, width=width)
                 with open(copy, "rb") as file:
                     self.assertEqual(file.read(), right)
                 os.unlink(copy)
@@ -327,6 +327,68 @@ class Files(unittest.TestCase):
         self.leave(by_hand(bytes(4), 24))  # More are counted than there are.
         self.assertEqual((hound.repair(self.path).counted, hound.repair(self.path).added), (12, 0))
 
+    def test_what_converts_a_file_is_named(self):
+        """FFmpeg reads PCM with headers that the format doesn't have, and integers of 64 bits."""
+        path, new = (os.path.join(self.folder.name, name) for name in ("a b.wav", "a b.pcm.wav"))
+        values = [1, -2, 3, -4]
+        data = struct.pack("<4h", *values)
+        for content, shift in (
+            (by_hand(data, extra=bytes(4)), 16),
+            (by_hand(data, extra=bytes(34)), 16),
+            (by_hand(data)[:28] + bytes(4) + by_hand(data)[32:], 16),
+            (by_hand(data, bits=12), 16),
+            (by_hand(struct.pack("<4i", *values), width=4, extra=bytes(2)), 0),
+            (by_hand(struct.pack("<4q", *(value << 32 for value in values)), width=8), 0),
+        ):
+            with open(path, "wb") as file:
+                file.write(content)
+            with self.assertRaises(HoundError) as caught:
+                hound.read(path)
+            words = f"ffmpeg -i '{path}' -c:a pcm_s32le '{new}'"
+            self.assertIn(words, str(caught.exception))
+            if shutil.which("ffmpeg"):
+                subprocess.run(words.replace("ffmpeg", "ffmpeg -v error -y"), shell=True, check=True)
+                self.assertEqual([value >> shift for value in hound.read(new)], values)
+        for bits in 40, 48, 56:
+            with self.assertRaises(HoundError) as caught:
+                hound.read(by_hand(bytes(bits), width=bits // 8), dtype="int32")
+            said = f"the file holds integers of {bits} bits, so it isn't read ({Cause.TOO_WIDE.sentence})"
+            self.assertEqual((str(caught.exception), caught.exception.cause), (said, Cause.TOO_WIDE))
+
+    def test_what_helps_where_samples_are_given(self):
+        for samples, bits, words in (
+            ([40000], 16, ": bits=24 holds more"), (array.array("h", [200]), 8, ": bits=16 holds more"),
+            ([1 << 23], 24, ": bits=32 holds more"), ([1 << 31], 32, ""), ([1 << 70], 16, ""), ([1e300], None, None),
+        ):  # fmt: skip
+            form = {"bits": bits} if bits else {"like": hound.Info(8000, 1, 32, True)}
+
+            def record():
+                with hound.create(self.path, 8000, 1, **form) as writer:
+                    writer.write(samples)
+
+            for call in (
+                lambda: hound.to_bytes(samples, 8000, **form),
+                lambda: hound.write(self.path, samples, 8000, **form),
+                record,
+            ):
+                with self.assertRaises(HoundError) as caught:
+                    call()
+                said = str(pickle.loads(pickle.dumps(caught.exception))).replace(self.path + ": ", "")
+                self.assertEqual(said, Cause.TOO_WIDE.sentence + (words or ""))
+        with self.assertRaisesRegex(HoundError, r'vice versa: give floats, such as array.array\("f", ..\)$'):
+            hound.to_bytes(array.array("h", [1]), like=hound.Info(8000, 1, 32, True))
+
+    def test_no_samples(self):
+        """An empty list has no type, so it is one of any file; an array has one."""
+        floats, integers = hound.Info(8000, 1, 32, True), hound.Info(8000, 1, 24)
+        for like, kind in (floats, b"\3"), (integers, b"\1"):
+            for empty in [], (), array.array("f"):
+                content = hound.to_bytes(empty, like=like)
+                self.assertEqual((len(content), bytes(content[44:45]), hound.info(content).frames), (68, kind, 0))
+                hound.write(self.path, empty, like=like)
+                self.assert_file(content)
+        self.fails(Cause.OTHER_FORMAT, lambda: hound.to_bytes(array.array("h"), like=floats))
+
     def test_what_is_in_a_file_that_is_rejected(self):
         def tagged(tag, bits, extra=b""):
             return by_hand(bytes(4), width=1, tag=tag, bits=bits, extra=extra)
@@ -362,7 +424,7 @@ class Files(unittest.TestCase):
                 with self.assertRaisesRegex(HoundError, f"^the file holds {held}, so .* FILE .* FILE.pcm.wav"):
                     hound.read(given)
         noise = random.Random(3).getrandbits(8000).to_bytes(1000, "big")
-        for content in b"", b"text", b"R", noise, tagged(1, 12), bytes(99):
+        for content in b"", b"text", b"R", noise, tagged(3, 12), tagged(1, 0), bytes(99):
             with self.assertRaises(HoundError) as caught:
                 hound.read(content)
             self.assertEqual((str(caught.exception), caught.exception.held), (caught.exception.cause.sentence, None))
