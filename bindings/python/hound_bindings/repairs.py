@@ -8,8 +8,8 @@ from typing import IO, Any, Iterator, Optional, Tuple, Union
 
 from . import conversion, disk, lost
 from ._library import (
-    FIND_DAMAGE, MAKE_CANONICAL, POINTER, REPAIR, REPAIR_TO_END, SIZE, U64, CRepair, HoundError, Info, Path, Repair, State,
-    checked, function, info_from, integer, name_error, named,
+    FIND_DAMAGE, MAKE_CANONICAL, POINTER, REPAIR, REPAIR_TO_END, SIZE, U64, CRepair, HoundError, Info, Path, Repair,
+    State, checked, function, info_from, integer, name_error, named,
 )  # fmt: skip
 from ._recorder import frames_left, repaired, resumed
 from .files import info, replaced
