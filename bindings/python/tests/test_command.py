@@ -16,6 +16,7 @@ import stat
 import struct
 import subprocess
 import sys
+import tempfile
 import time
 import unittest
 import unittest.mock
@@ -407,22 +408,33 @@ class Command(Folder):
         os.chmod(os.path.join(self.folder, "y"), 0)
         os.chmod(os.path.join(self.folder, "z"), 0o644)
         os.chmod(os.path.join(self.folder, "x/a.wav"), 0o666)
-        if os.geteuid() == 0:
-            nobody = {"preexec_fn": lambda: os.setresuid(65534, 65534, 65534)}
-        else:
-            nobody = {}
         for words in ["info"], ["repair", "--dry-run"], ["repair"]:
-            out = self.run_command(*words, ".", status=1, **nobody)
+            out, said = self.fails_for_another(*words, ".")
             self.assertIn(b"x/a.wav", out)
-            said = sorted(self.said.splitlines())
-            self.assertEqual(said[:2], [b"hound-wav: ./y: Permission denied", b"hound-wav: ./z/z: Permission denied"])
-        self.run_command("repair", "y", status=1, **nobody)
-        self.assertIn(b"hound-wav: y: Permission denied\n", self.said)
-        found = [json.loads(row) for row in self.run_command("info", "--json", "y", status=1, **nobody).splitlines()]
-        self.assertEqual(found, [{"file": "y", "error": "y: Permission denied"}])
+            denied = [b"hound-wav: ./y: Permission denied", b"hound-wav: ./z/z: Permission denied"]
+            self.assertEqual(sorted(said.splitlines()), denied)
+        self.assertEqual(self.fails_for_another("repair", "y")[1], b"hound-wav: y: Permission denied\n")
+        out = self.fails_for_another("info", "--json", "y")[0]
+        self.assertEqual(json.loads(out), {"file": "y", "error": "y: Permission denied"})
         self.assertEqual(self.content("x/a.wav"), by_hand(bytes(8)))
         os.chmod(os.path.join(self.folder, "y"), 0o755)
         os.chmod(os.path.join(self.folder, "z"), 0o755)
+
+    def fails_for_another(self, *words):
+        """What a command prints for a user who isn't root, with status 1."""
+        with tempfile.TemporaryFile() as out, tempfile.TemporaryFile() as said:
+
+            def run():
+                os.chdir(self.folder)
+                os.dup2(out.fileno(), 1)
+                os.dup2(said.fileno(), 2)
+                sys.stdout, sys.stderr = io.open(1, "w", closefd=False), io.open(2, "w", closefd=False)
+                if os.geteuid() == 0:
+                    os.setresuid(65534, 65534, 65534)
+                return command.main(list(words)) == 1
+
+            self.assertEqual(os.waitpid(forked(run), 0)[1], 0)
+            return [file.seek(0) or file.read() for file in (out, said)]
 
     def test_repair_of_what_is_all_counted(self):
         content, canonical = by_hand(b"\x81\x82\x83", width=1), by_hand(b"\x81\x82\x83", width=1, after=b"\0")

@@ -965,7 +965,7 @@ class Files(unittest.TestCase):
         some = random.Random(11)
         for tag, width in ((1, 1), (1, 2), (1, 3), (1, 4), (3, 4)):
             for count in 0, 1, 5, 4099, 150001:
-                data = some.randbytes(width * count * 2)
+                data = bytes(some.choices(range(256), k=width * count * 2))
                 content = by_hand(data, channels=2, width=width, tag=tag)
                 self.leave(content)
                 for dtype in None, "int8", "int16", "int32", "float32", "float64":

@@ -1,5 +1,6 @@
 """Recordings that are continued by a recorder that starts by itself, whatever a kill left of them."""
 import array
+import io
 import itertools
 import os
 import random
@@ -57,7 +58,7 @@ class Resuming(Case):
         self.assertRaises(FileNotFoundError, lambda: hound.resume(self.path))
         self.assertRaises(TypeError, lambda: hound.resume(self.path, 8000, 2))
         self.fails(Cause.NOT_WRITABLE, lambda: hound.resume(self.path, 8000, 2, 12))
-        self.assertRaises(TypeError, lambda: hound.resume(open(os.devnull, "rb"), *FORM))
+        self.assertRaises(TypeError, lambda: hound.resume(io.BytesIO(), *FORM))
         self.assertEqual(os.listdir(self.folder), [])
 
     def test_a_part_of_a_header_is_begun_anew(self):
