@@ -2,8 +2,9 @@
 """Kills recorders that continue in a next file, and looks at all their files: after a repair of the last two every
 sample that was flushed, or whose write had returned, is there, in order, once. The recorders are `hound-wav record`, a
 program with the Python package, one with the JavaScript package, and record.c. Of the last one each call of the system
-fails, too, and each one kills it; and what a loss of power may leave is built from the calls of durable recorders. The
-files are read here by hand.
+fails, too, and each one kills it; and what a loss of power may leave is built from the calls of durable recorders. One
+that starts by itself again after each kill, `hound-wav record --append`, is rejected by nothing. The files are read
+here by hand.
 
 usage: parts.py [KILLS [short]]     (of each recorder, 200 where no number is given; short: without failing calls and
 losses of power. It needs cc, and node and strace, or says so)"""
@@ -199,6 +200,37 @@ def kills(recorders, kind, words_for, count):
     print(f"parts: {kind}: {count} kills, after {min(found)} to {max(found)} frames: nothing is lost", flush=True)
 
 
+def frames_at(path):
+    """How many whole frames the files of a recording hold, whatever their headers count."""
+    names = itertools.takewhile(os.path.exists, (part_name(path, number) for number in itertools.count(1)))
+    return sum(max(os.path.getsize(name) - HEADER, 0) // FRAME for name in names)
+
+
+def started_again(recorders, count):
+    """Starts `hound-wav record --append` again and again, and kills it each time: it is rejected by nothing that it
+    left, and goes on after all frames that are there."""
+    some, pipes = random.Random("started again"), {"stdin": subprocess.PIPE, "stderr": subprocess.PIPE}
+    starts, frames, files = 0, 0, 0
+    while starts < count:
+        with tempfile.TemporaryDirectory(dir=recorders.folder) as folder:
+            path = os.path.join(folder, "take.wav")
+            words = [*recorders.by_command(path), "--append"]
+            while starts < count and (held := frames_at(path)) < FRAMES - 65536 // FRAME:
+                with subprocess.Popen(words, **pipes) as running:
+                    # As many as a pipe holds, at most.
+                    more = some.choice([0, 1, 100, 1500, 3600])
+                    running.stdin.write(DATA[FRAME * held : FRAME * (held + more)])
+                    running.stdin.flush()
+                    time.sleep(some.uniform(0.05, 0.3))
+                    running.kill()
+                    said = running.stderr.read().decode()
+                starts += 1
+                expect(f"start {starts} is rejected: {said}", running.returncode == -9)
+            frames += len(repaired(path, recorders.repair)) // FRAME
+            files += len(parts_at(path))
+    print(f"parts: hound-wav record --append: {starts} starts and kills, {frames} frames in {files} files: none is lost")
+
+
 CALLS = ["pwrite64", "openat", "ftruncate", "fsync", "flock", "fcntl", "close", "newfstatat"]
 
 
@@ -350,6 +382,10 @@ def main():
         recorders = Recorders(folder)
         for kind, words_for in recorders.kinds.items():
             kills(recorders, kind, words_for, count)
+        try:
+            started_again(recorders, 2 * count)
+        except Wrong as error:
+            sys.exit(f"parts: hound-wav record --append: {error}")
         for what, change in WRONG.items():
             wrong = recorders.compiled("record", *change)
             try:

@@ -142,7 +142,8 @@ _ADVICE: Advice = {
 # The number that the fmt chunk has of integers, and by what it may be rejected though FFmpeg reads such a file.
 _PCM = 1
 _ODD_HEADERS = (
-    Cause.UNEXPECTED_FMT_SIZE, Cause.INCONSISTENT, Cause.BITS_NOT_WHOLE_BYTES, Cause.BITS_NOT_8_OR_16,
+    Cause.UNEXPECTED_FMT_SIZE, Cause.EXTENSIBLE_SIZE, Cause.INCONSISTENT, Cause.BITS_NOT_WHOLE_BYTES,
+    Cause.BITS_NOT_8_OR_16,
 )  # fmt: skip
 
 

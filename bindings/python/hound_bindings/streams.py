@@ -498,8 +498,8 @@ class Writer(Recorder):
         return following
 
     def _undo_attempt(self) -> None:
-        """Closes and removes a next file that isn't written to, since the call that made it was cut off. What a
-        traceback holds of it would keep it open and locked."""
+        """Removes a next file that isn't written to, since the call that made it was cut off. It is closed first, as a
+        traceback may hold it, and Windows removes no open file."""
         attempt = self._attempt
         if attempt is None or attempt.path == self._file.path:
             return

@@ -795,6 +795,7 @@ class Command(Folder):
         running.stdin.flush()
         self.wait_for(2)
         running.send_signal(signal.SIGHUP)
+        time.sleep(1)
         running.communicate(SAMPLES.tobytes()[8:], timeout=30)
         self.assertEqual((running.returncode, self.content("a.wav")), (0, made_by_wave(SAMPLES)))
 
@@ -810,6 +811,8 @@ class Command(Folder):
         if stdin == subprocess.PIPE:
             running.stdin.write(given)
             running.stdin.close()
+        else:
+            os.write(outer, given)
         said = b""
         with contextlib.suppress(OSError):  # The terminal has no other end any more.
             while piece := os.read(outer, 1000):
@@ -828,6 +831,10 @@ class Command(Folder):
         self.assertRegex(said, rb"\r\x1b\[Ka\.wav: 8000 Hz, 2 channels, 16 bits, 4000 frames, 0\.500 s\r\n$")
         self.run_command("record", "b.wav", *form, given=loud.tobytes())
         self.assertEqual(self.said, b"b.wav: 8000 Hz, 2 channels, 16 bits, 4000 frames, 0.500 s\n")
+        said, status = self.on_a_terminal("record", "c.wav", *form, given=b"abc\n\4")
+        self.assertIn(b"samples are read from this terminal: to record a microphone pipe it in, as arecord ", said)
+        self.assertEqual((status, self.content("c.wav")[44:]), (0, b"abc\n"))
+        os.unlink(os.path.join(self.folder, "c.wav"))
         said, status = self.on_a_terminal("record", "c.wav")
         self.assertIn(b"--rate, --channels and --bits are needed, or a WAV stream in a pipe, as arecord ", said)
         self.assertEqual((status, os.path.exists(os.path.join(self.folder, "c.wav"))), (2, False))

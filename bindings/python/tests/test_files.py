@@ -28,6 +28,9 @@ from interruptions import Interrupted, Interruption
 from wav import CHUNK, by_hand, with_chunk, with_riff
 
 
+GUID = b"\1\0\0\0\0\0\x10\0\x80\0\0\xaa\0\x38\x9b\x71"  # of PCM
+
+
 class Pipe:
     """What can't seek."""
 
@@ -337,6 +340,7 @@ class Files(unittest.TestCase):
             (by_hand(data, extra=bytes(34)), 16),
             (by_hand(data)[:28] + bytes(4) + by_hand(data)[32:], 16),
             (by_hand(data, bits=12), 16),
+            (by_hand(data, tag=0xFFFE, extra=struct.pack("<HHI", 26, 16, 4) + GUID + bytes(4)), 16),
             (by_hand(struct.pack("<4i", *values), width=4, extra=bytes(2)), 0),
             (by_hand(struct.pack("<4q", *(value << 32 for value in values)), width=8), 0),
         ):
