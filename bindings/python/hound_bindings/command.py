@@ -777,6 +777,8 @@ def _form_to_record(options: argparse.Namespace, source: _Input) -> hound.Info:
     try:
         with repairs.found_at(options.target, FIND_DAMAGE) as (_, found):
             return repairs.header_of(found)
+    except FileNotFoundError:
+        raise ValueError(f"{options.target} isn't there: --rate, --channels and --bits begin it") from None
     except hound.HoundError as error:
         if error.cause == hound.Cause.ENDED:
             raise ValueError(f"{options.target} has no header: --rate, --channels and --bits begin it anew") from None
@@ -826,12 +828,13 @@ def _record_as(options: argparse.Namespace, source: _Input, form: hound.Info) ->
 
     try:
         writer = _opened_to_record(options, form)
+        before = len(writer.paths) - 1  # those of a recording in parts that is continued
         try:
             with writer:
                 left = _recorded(writer, source, form, options.checkpoint)
         finally:
             # Also where a write failed, whose error is said, too.
-            is_read = all([_say_what_is_kept(as_given(path)) for path in writer.paths])
+            is_read = all([_say_what_is_kept(as_given(path)) for path in writer.paths[before:]])
     except (OSError, hound.HoundError) as error:
         if error.filename is not None:
             error.filename = as_given(error.filename)

@@ -665,8 +665,8 @@ def _stream_of(file: IO[bytes], durable: bool, method: str) -> disk.Stream:
 
 
 def append_to(path: Union[Path, IO[bytes]], *, durable: bool = False, dither: int = False) -> Writer:
-    """A file that is there, after whose frames more are written. A recording that was cut off is an error,
-    and so are chunks or a tag after its data."""
+    """A file that is there, after whose frames more are written. A recording that was cut off is an error (`resume`
+    continues one), and so are chunks or a tag after its data."""
     return _append_to(path, durable, False, dither)
 
 

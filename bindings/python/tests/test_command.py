@@ -705,6 +705,7 @@ class Command(Folder):
                     self.assertEqual(self.content("a.wav"), made_by_wave(SAMPLES[: 2 * held] + SAMPLES))
                 else:
                     self.run_command("record", "a.wav", "--append", given=data, status=1)
+                    self.assertIn(b"--rate, --channels and --bits begin it", self.said)
                     self.assertEqual(left and self.content("a.wav"), left)
         self.leave_as("a.wav", PLAIN[:40])
         self.run_command("record", "a.wav", "--append", given=data, status=1)
@@ -723,6 +724,7 @@ class Command(Folder):
             self.run_command("record", "a.wav", *form, "--split", "20", given=data[:100])
             self.run_command("record", "a.wav", "--append", *words, "--split", "20", given=data[100:])
             self.assertIn(b"a-003.wav: 8000 Hz, 1 channel, 16 bits, 20 frames", self.said)
+            self.assertNotIn(b"a-002.wav", self.said)  # It was ended before.
             parts = [data[place : place + 40] for place in range(0, 250, 40)]
             names = ["a.wav", *(f"a-00{number}.wav" for number in range(2, 8))]
             self.assertEqual([self.content(name) for name in names], list(map(by_hand, parts)))

@@ -18,6 +18,9 @@ with hound.create(io.BytesIO(), like=info) as writer, hound.open("a.wav") as rea
     name: str = info.frames  # type: ignore[assignment]
 hound.create("a.wav", 8000, 2, 24, True)  # type: ignore[misc]
 hound.create("a.wav", 8000, 2, 24, split="1h")  # type: ignore[arg-type]
+hound.resume("a.wav", 8000, 2, 24, durable=True).close()
+hound.resume("a.wav", split="1h")  # type: ignore[arg-type]
+hound.resume(io.BytesIO(), 8000, 2, 24)  # type: ignore[arg-type]
 hound.write("a.wav", samples, 8000, 2, 24, 4)  # type: ignore[misc]
 hound.append("a.wav", samples, True)  # type: ignore[misc]
 hound.read("a.wav", 0, -1, "int16", always_2d=True)
