@@ -419,7 +419,8 @@ has python3 "what the packages have of hound.h" \
     && check "the packages have the errors, structs, constants and the version of hound.h" scripts/make_interface.py \
         --check
 if has python3 "the Python package" && has "$cc" "the Python package"; then
-    has mypy "the types of the Python package (Debian: mypy)" && check "the types of the Python package, by mypy" python_types
+    has mypy "the types of the Python package (Debian: mypy)" \
+        && check "the types of the Python package, by mypy" python_types
     check "where HOUND_C_LIB has no library, a line says so" no_library
     if python3 -c 'import ensurepip, venv' 2> /dev/null; then
         check "pip installs the Python package from a clone, here without a C compiler" python_installed

@@ -100,8 +100,8 @@ enum { HOUND_INT = 0, HOUND_FLOAT = 1 };
 
 /* How hound_repair found a file. */
 enum {
-    HOUND_WHOLE = 0,                 /* both sizes were right, no pad byte was missing, and at most bytes of a torn frame
-                                        followed */
+    HOUND_WHOLE = 0,                 /* both sizes were right, no pad byte was missing, and at most bytes of a torn
+                                        frame followed */
     HOUND_CUT_OFF = 1,               /* the data length was wrong, as after a recording that was cut off */
     HOUND_HAS_CHUNKS_AFTER_DATA = 2, /* chunks or a tag follow the data */
     HOUND_ALL_COUNTED = 3            /* the data length counts all whole frames, so no sample is concerned: only the
@@ -315,9 +315,9 @@ void hound_repairer_begin(uint64_t length, uint32_t mode, hound_repairer *repair
    between two writes: of all that there is, the RIFF size, the data length, the pad byte. So there are at most seven
    effects that write or sync, and a look at a file reads few parts of it: after each effect that is reported as done
    fewer are left, whatever was read. A part that was read in fewer bytes than the file has of it by its length is
-   HOUND_ENDED, because what wasn't read may be a chunk. After an error, or where it was stopped, the file can be repaired by
-   another repairer. Where nothing is to be written it syncs nothing: so after a repair that was stopped before its last sync,
-   a loss of power may leave the file as it was before that. */
+   HOUND_ENDED, because what wasn't read may be a chunk. After an error, or where it was stopped, the file can be
+   repaired by another repairer. Where nothing is to be written it syncs nothing: so after a repair that was stopped
+   before its last sync, a loss of power may leave the file as it was before that. */
 int32_t hound_repairer_next(hound_repairer *repairer, hound_repair_t *found) HOUND_NONNULL;
 
 /* Samples without a file around them: containers one after the other, as in the data of a file. They

@@ -898,7 +898,7 @@ static void fillers(void) {
     }
 }
 
-/* Both sizes are right, and less than a frame follows: a recorder cuts off bytes of a torn frame alone without leave. */
+/* Both sizes are right, and less than a frame follows: a recorder cuts off only bytes of a torn frame without leave. */
 static void short_rests(void) {
     static const struct { const char *bytes; uint32_t length, state; int32_t code; } rests[] = {
         {"TAG", 128, HOUND_HAS_CHUNKS_AFTER_DATA, HOUND_NEEDS_OVERWRITE},
@@ -924,7 +924,8 @@ static void short_rests(void) {
         must(hound_recorder_resume(&found, 0, &recorder) == rests[i].code, "a recorder without leave");
         if (rests[i].code < 0) continue;
         cut = effect_of(HOUND_SHORTEN, (uint64_t)length, 0, 0);
-        must(found.left_over == rests[i].length && hound_recorder_write(&recorder, 64) == 0 && requests(&recorder, &cut),
+        must(found.left_over == rests[i].length && hound_recorder_write(&recorder, 64) == 0
+                 && requests(&recorder, &cut),
              "a torn frame is cut off");
     }
 }

@@ -5,7 +5,8 @@ joins the modules, since two of them may have a name in common.
 usage: make.py            writes it
        make.py --check    writes nothing, and fails where it isn't what would be written, or isn't JavaScript
 
-Another esbuild than Debian's may write other bytes. Then --check only looks that the page is JavaScript, and says so."""
+Another esbuild than Debian's may write other bytes. Then --check only looks whether the page is JavaScript, and says
+so."""
 import base64
 import hashlib
 import os
@@ -71,7 +72,8 @@ def check_syntax(page):
 def has_esbuild():
     if shutil.which("esbuild") is None:
         return False
-    return subprocess.run(["esbuild", "--version"], check=True, stdout=subprocess.PIPE).stdout.decode().strip() == ESBUILD
+    version = subprocess.run(["esbuild", "--version"], check=True, stdout=subprocess.PIPE).stdout.decode()
+    return version.strip() == ESBUILD
 
 
 def main():

@@ -94,8 +94,8 @@ ReadsSince s file known samples from medium = (calls : List Call) × AreKnown kn
     × ((k : ℕ) → from ≤ k → k ≤ length medium.past → ReadsAs s (start_of s file)
     (found_in file ++ accepted_by_all calls) (moment medium.start medium.past k))
 
--- Of what a repair of these contents has left another one, to its end, finds the same frames, and where it mends the file
--- leaves what the first one would have left; or nothing was written.
+-- Of what a repair of these contents has left another one, to its end, finds the same frames, and where it mends the
+-- file leaves what the first one would have left; or nothing was written.
 abbrev pub IsDoneAgain : List ℕ → List ℕ → (ℕ → Type 0) → Type 0
 IsDoneAgain old left premise = (left ≡ old)
     ⊎ ((found : Repair) × (len : ℕ) × (start : ℕ) × IsFoundAt false old found len start

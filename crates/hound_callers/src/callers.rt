@@ -49,8 +49,8 @@ pub fn finish<M: Medium>(writer: WavWriter<M>) -> (M, hound::Result<()>)
 
 /// Repairs what a recorder has left, whoever made its calls, over whichever medium: it does what `repair_to_end` does
 /// (`repaired`), and no sample is missing that one of the recorder's flushes has published, whether calls failed or the
-/// power went (`none_lost`). Another repair then finds the same frames and writes nothing (`again`). One that failed has
-/// written nothing, or is done again: that finds the same frames, and leaves what the first one would have left
+/// power went (`none_lost`). Another repair then finds the same frames and writes nothing (`again`). One that failed
+/// has written nothing, or is done again: that finds the same frames, and leaves what the first one would have left
 /// (`stopped`). So it is where the power goes meanwhile (`lost`).
 pub fn repair_recording<N: Source + Medium>(left: N) -> result::Result<(N, Repair), (N, Error)>
     requires place { WhereTells N.tells ((N.state left).place ≡ 0) }

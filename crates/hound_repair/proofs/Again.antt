@@ -243,7 +243,8 @@ module _ (looks again : Bool) (old mid next new : MediumState) (found other : Re
       (omega (arith, held_now, no_rest (frame_length s) shown n (found_length found) all_is torn))
 
   -- a second repair finds the same frames, and writes nothing
-  pub second_repair : ((other.state ≡ Whole) ⊎ ((other.state ≡ HasChunksAfterData) × IsTrue again × 1 ≤ found.left_over))
+  pub second_repair :
+      ((other.state ≡ Whole) ⊎ ((other.state ≡ HasChunksAfterData) × IsTrue again × 1 ≤ found.left_over))
       × (other.spec_ex ≡ found.spec_ex) × (other.frames ≡ found.frames) × (new.contents ≡ next.contents)
   second_repair =
       let s = found.spec_ex in

@@ -26,7 +26,7 @@ fault_by_frames : (s : WavSpecEx) (len other start n m : ℕ) → frames_held s 
 unfolding repair_fault size_fault
 fault_by_frames s len other start n m same = grind (arith, common_steps, same)
 
--- two sizes are put into bytes of which only these were others
+-- two sizes are written into bytes of which only these were others
 same_but_sizes : (p size n : ℕ) (old new : List ℕ) → SameButSizes p old new
     → with_sizes p size n new ≡ with_sizes p size n old
 unfolding with_sizes
@@ -143,7 +143,8 @@ module _ (looks : Bool) (old : List ℕ) (mid : MediumState) (found : Repair) (l
       head_now in
       let unfollowed = not_followed again _ _ _ other.state second.is.state alone in (
         agree.0,
-        frames_are again mid.contents other second.len second.start second.is unfollowed ∙ cc (agree.0, agree.1, agree.2, frames_now),
+        frames_are again mid.contents other second.len second.start second.is unfollowed
+            ∙ cc (agree.0, agree.1, agree.2, frames_now),
       )
 
   -- and where it mends the file it leaves what the first one would have left

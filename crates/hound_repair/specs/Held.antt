@@ -60,7 +60,8 @@ has_pad data_length n = length (missing_pad data_length n) == 0
 -- both sizes are right, the data length and the RIFF size with it, and no pad byte is missing
 abbrev pub are_right : WavSpecEx → ℕ → ℕ → ℕ → ℕ → ℕ → Bool
 are_right s start len riff shown n =
-    ((riff == riff_size start (right_length s shown n)) && has_pad (right_length s shown n) n) && counts_all s len shown n
+    ((riff == riff_size start (right_length s shown n)) && has_pad (right_length s shown n) n)
+    && counts_all s len shown n
 
 -- the contents with the sizes of data of this length, and the pad byte where it is missing
 abbrev pub mended : ℕ → ℕ → List ℕ → List ℕ

@@ -225,12 +225,12 @@ IsFoundFrom n (stages.Head walk) d = ⊥
 IsFoundFrom n (stages.Last head) d = ⊥
 IsFoundFrom n stage d = (head_of stage ≡ Some d.head) × (d.head.data_start + d.held ≤ n)
 
--- where a look goes on from a part of a file of n bytes, whatever was read
+-- where a part of a file of n bytes leads a look, whatever was read
 abbrev pub IsLookFrom : ℕ → Stage → LookStep → Type 0
 IsLookFrom n stage (Next next) = StaysWith stage next
 IsLookFrom n stage (Found d) = IsFoundFrom n stage d
 
--- where it goes on of a file that was measured
+-- where a file that was measured leads it
 abbrev pub IsLookOf : Damage → LookStep → Type 0
 IsLookOf d (Next next) = head_of next ≡ Some d.head
 IsLookOf d (Found found) = (found.head ≡ d.head) × (found.held ≡ d.held)
@@ -432,8 +432,8 @@ WhereRead task n bytes stage P = (file : List ℕ) → IsLengthOf n file
 abbrev pub AreEnough : ℕ → Stage → List ℕ → Type 0
 AreEnough n stage bytes = min (asked_count stage) (min n (2 ^ 33) - stage_place stage n) ≤ length bytes
 
--- What a part that was read leads to, whatever bytes were handed in. Where these are fewer than the file has, nothing is
--- found.
+-- What a part that was read leads to, whatever bytes were handed in. Where these are fewer than the file has, nothing
+-- is found.
 -- | Looks, and another part decides | done | that part, after which fewer are left |
 -- | Looks, and the file is known | done | the first effect, and Mends; or what was found, and Found |
 -- | Looks, at bytes that aren't repaired | done | their error, and stays as it is |

@@ -360,7 +360,8 @@ fn take_header(
 // Whether these are all bytes that a file of so many has of the part that was requested.
 fn are_enough(size: u64, stage: Stage, bytes: &[u8]) -> bool
     requires { IsSoundStage stage }
-    ensures { result ≡ nat_le (min (asked_count stage) (min size (2 ^ 33) - stage_place stage size)) (length bytes.now) }
+    ensures { result
+        ≡ nat_le (min (asked_count stage) (min size (2 ^ 33) - stage_place stage size)) (length bytes.now) }
 {
     let left = size.min(LIMIT).saturating_sub(stage.place(size));
     bytes.len() as u64 >= left.min(stage.count() as u64)

@@ -24,7 +24,7 @@ ends_whole f = nat_lt 0 (found_frame f) && ((f.data_length % found_frame f == 0)
 -- | any that lacks samples which are counted | nothing | none: `Truncated` |
 -- | any that ends with the whole frames that are counted, or with their pad byte | nothing | continues after them |
 -- | `Whole` or `AllCounted` | nothing | continues after the samples that are counted, and cuts off a torn frame |
--- | `CutOff`, whose header counts no more than the whole frames | to mend | continues after all whole frames, by a checkpoint |
+-- | `CutOff`, whose header counts no more than whole frames | to mend | continues after all of these, by a checkpoint |
 -- | `CutOff`, whose header counts more | to mend | none: `UnfinishedFrame`, to be repaired first |
 -- | `CutOff` | nothing | none: `NeedsMend` |
 -- | `HasChunksAfterData` | to overwrite | continues after the samples that are counted, and cuts the chunks off |

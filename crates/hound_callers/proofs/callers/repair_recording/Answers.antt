@@ -100,8 +100,8 @@ through_loss law finished old new mends sector left settled wide lost =
     elim (mends sector left settled wide lost) [
       | inl same ↦ inl same
       | inr (found, len, start, is, state, half) ↦
-          done_again law finished old.contents left (λ start. (start - 4) / sector ≡ (start - 1) / sector) found len start is
-          state half
+          done_again law finished old.contents left (λ start. (start - 4) / sector ≡ (start - 1) / sector) found len
+          start is state half
     ]
 
 pub returns-clause-lost : goal.returns-clause-lost
