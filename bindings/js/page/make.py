@@ -20,9 +20,9 @@ HERE = os.path.dirname(os.path.abspath(__file__))
 PAGE = os.path.join(HERE, "hound.html")
 ESBUILD = "0.17.0"  # Debian 12 has this one.
 
-# The page takes this instead of module.js: the WebAssembly module is in the page, and there are no files of Node.
+# The page takes this instead of module.js: what a browser has, and the WebAssembly module in the page itself.
 EMBEDDED = """import bytes from "./hound_c32.wasm";
-export const nodeFiles = () => Promise.reject();
+export * from "./browser.js";
 export const module = () => WebAssembly.compile(bytes);
 """
 
@@ -40,7 +40,7 @@ def script():
     """The modules of the page as one."""
     with tempfile.TemporaryDirectory() as folder:
         os.mkdir(os.path.join(folder, "page"))
-        for path in ("guess.js", "hound.js", "page/page.js"):
+        for path in ("browser.js", "guess.js", "hound.js", "page/page.js"):
             shutil.copy(os.path.join(HERE, "..", path), os.path.join(folder, path))
         shutil.copy(os.path.join(HERE, "..", "..", "lib", "hound_c32.wasm"), folder)
         with open(os.path.join(folder, "module.js"), "w", encoding="utf-8") as file:

@@ -4,7 +4,7 @@ import { test } from "node:test";
 import { HoundError, findDamage, repair, write } from "../hound.js";
 import { module } from "../module.js";
 
-const FILES = 400, LONG = 1 << 21, PAGE = 65536;
+const FILES = 600, LONG = 1 << 21, PAGE = 65536;
 const { exports: hound } = await WebAssembly.instantiate(await module());
 const start = PAGE * hound.memory.grow(LONG / PAGE + 3);
 

@@ -253,7 +253,7 @@ class Files(unittest.TestCase):
                     *((no_pad, riff) for riff in (right, right - 1, 36)),
                 ):
                     self.leave(with_riff(content, riff))
-                    state = State.WHOLE if riff == right else State.ALL_COUNTED
+                    state = State.WHOLE if (content, riff) == (whole, right) else State.ALL_COUNTED
                     state = State.HAS_CHUNKS_AFTER_DATA if after else state
                     for call in hound.find_damage, hound.repair:
                         found = call(self.path)
