@@ -241,6 +241,8 @@ typedef struct {
     int has_rest;   /* a part of a block that failed couldn't be cut off: a repair would take it for samples */
     uint32_t counted; /* how many bytes of samples the header counts */
     int32_t kind;     /* what hound_kind returned for a file that wasn't appended to or repaired */
+    const uint8_t *header; /* with which each file of the recording begins, or NULL: the caller's, see hound_file_header */
+    uint32_t header_length;
     hound_recorder recorder;
 } hound_file;
 
@@ -412,54 +414,133 @@ static inline int hound_file_perform_at(hound_file *file, const char *path, houn
     return !file->fault;
 }
 
+/* A header of a file's own, and the chunk that hound_file_header lays out in it. */
+enum { HOUND_FILE_CHUNK_BYTES = 9 };
+
+/* Lays out a chunk: its name of four characters, its length, the content, and a byte of 0 where that is odd. Returns how
+   many bytes it has, at most HOUND_FILE_CHUNK_BYTES more than the content; HOUND_NO_ROOM; or HOUND_TOO_LONG. */
+static inline int64_t hound_file_chunk(const char *name, const uint8_t *content, size_t length, uint8_t *out,
+                                       size_t capacity) {
+    uint32_t i;
+    if (length >= UINT32_MAX - 8) return HOUND_TOO_LONG;
+    if (capacity < 8 || capacity - 8 < length + length % 2) return HOUND_NO_ROOM;
+    memcpy(out, name, 4);
+    for (i = 0; i < 4; i++) out[4 + i] = (uint8_t)(length >> 8 * i);
+    memcpy(out + 8, content, length);
+    if (length % 2) out[8 + length] = 0;
+    return (int64_t)(8 + length + length % 2);
+}
+
+/* The header of a file of no samples with these chunks, which are laid out one after the other, before its data: for
+   hound_file_create_with. It has as many bytes as the chunks and at most HOUND_HEADER_BYTES + HOUND_FILLER_BYTES more,
+   and all four bytes of the data length are in one sector of a disk, which a power failure stores whole or not. Returns
+   how many they are; HOUND_NOT_WRITABLE; HOUND_NO_ROOM; HOUND_TOO_LONG; or HOUND_NO_DATA_CHUNK where these bytes aren't
+   whole chunks, or one of them is another "fmt " or "data". */
+static inline int64_t hound_file_header(const hound_spec *spec, const uint8_t *chunks, size_t length, uint8_t *out,
+                                        size_t capacity) {
+    uint8_t head[HOUND_HEADER_BYTES], sizes[8];
+    hound_info_t info, plain;
+    int64_t front = hound_header(spec, 0, head, sizeof head), filler, end;
+    if (front < 0) return front;
+    if (length >= UINT32_MAX) return HOUND_TOO_LONG;
+    if (capacity < (size_t)front + length + HOUND_FILLER_BYTES) return HOUND_NO_ROOM;
+    memcpy(out, head, (size_t)front - 8);
+    memcpy(out + front - 8, chunks, length);
+    filler = hound_filler((uint64_t)front + length, out + front - 8 + length, HOUND_FILLER_BYTES);
+    if (filler < 0) return filler;
+    end = front + (int64_t)length + filler;
+    memcpy(out + end - 8, head + front - 8, 8);
+    if (hound_sizes(spec, (uint64_t)end, 0, sizes, sizeof sizes) < 0) return HOUND_TOO_LONG;
+    memcpy(out + 4, sizes, 4);
+    if (hound_info(head, (size_t)front, &plain) < 0 || hound_info(out, (size_t)end, &info) < 0
+        || info.data_start != (uint64_t)end || memcmp(&info.spec, &plain.spec, sizeof info.spec))
+        return HOUND_NO_DATA_CHUNK;
+    return end;
+}
+
 /* What hound_beginning returns for a number, which becomes that of the effect after this one. Writes that follow one
-   another are one block, in this room of HOUND_HEADER_BYTES: so no kill comes between the two parts of a header. */
-static inline int32_t hound_file_beginning(const hound_spec *spec, uint32_t *number, hound_effect *effect,
-                                           uint8_t *block) {
+   another are one block, in this room of HOUND_HEADER_BYTES or the header of the file's own: so no kill comes between
+   the two parts of a header. */
+static inline int32_t hound_file_beginning(const hound_file *file, const hound_spec *spec, uint32_t *number,
+                                           hound_effect *effect, uint8_t *room, const uint8_t **block) {
     hound_effect next;
     int32_t code = hound_beginning(spec, (*number)++, effect);
     if (code != 1 || effect->kind != HOUND_WRITE) return code;
     effect->kind = HOUND_WRITE_BLOCK;
-    memcpy(block, effect->bytes, effect->length);
+    memcpy(room, effect->bytes, effect->length);
     while (hound_beginning(spec, *number, &next) == 1 && next.kind == HOUND_WRITE
            && next.place == effect->place + effect->length && effect->length + next.length <= HOUND_HEADER_BYTES) {
-        memcpy(block + effect->length, next.bytes, next.length);
+        memcpy(room + effect->length, next.bytes, next.length);
         effect->length += next.length, ++*number;
     }
+    *block = file->header ? file->header : room;
+    if (file->header) effect->length = file->header_length;
     return 1;
+}
+
+/* Begins the recorder of a new file, whose first checkpoint is under way. */
+static inline int32_t hound_file_begin_recorder(hound_file *file, const hound_spec *spec) {
+    hound_repair_t found;
+    hound_info_t info;
+    int32_t code;
+    if (!file->header) return hound_recorder_begin(spec, &file->recorder);
+    code = hound_info(file->header, file->header_length, &info);
+    if (code < 0) return code;
+    memset(&found, 0, sizeof found);
+    found.spec = info.spec, found.data_start = found.length = file->header_length;
+    code = hound_recorder_resume(&found, 0, &file->recorder);
+    hound_recorder_checkpoint(&file->recorder);
+    return code;
 }
 
 /* Performs the effects with which a file begins, and those of the checkpoint after them. */
 static inline int32_t hound_file_begin(hound_file *file, const char *path, const hound_spec *spec) {
-    uint8_t header[HOUND_HEADER_BYTES];
+    uint8_t room[HOUND_HEADER_BYTES];
+    const uint8_t *header = room;
     hound_effect effect;
     uint32_t number = 0;
     int32_t code;
-    while ((code = hound_file_beginning(spec, &number, &effect, header)) == 1)
+    while ((code = hound_file_beginning(file, spec, &number, &effect, room, &header)) == 1)
         if (!hound_file_perform_at(file, path, &effect, header)) return HOUND_NOT_PERFORMED;
     return code < 0 ? code : hound_file_finish(file, NULL);
+}
+
+/* Whether the first bytes of a file are these. */
+static inline int hound_file_begins_as(const hound_file *file, const uint8_t *bytes, uint64_t count) {
+    uint8_t there[256];
+    uint64_t done, piece;
+    for (done = 0; done < count; done += piece) {
+        piece = count - done < sizeof there ? count - done : sizeof there;
+        if (hound_file_read_at(file->descriptor, there, (size_t)piece, done) != (int64_t)piece
+            || memcmp(there, bytes + done, (size_t)piece))
+            return 0;
+    }
+    return 1;
 }
 
 /* Whether a file of so many bytes is less than the header with which a new one of this spec begins, and equal to it as
    far as it goes: then it holds no sample. */
 static inline int hound_file_is_unbegun(const hound_file *file, const hound_spec *spec, uint64_t held) {
-    uint8_t header[HOUND_HEADER_BYTES], there[HOUND_HEADER_BYTES];
+    uint8_t room[HOUND_HEADER_BYTES];
+    const uint8_t *header = room;
     hound_effect effect;
     uint32_t number = 0;
     do
-        if (hound_file_beginning(spec, &number, &effect, header) != 1) return 0;
+        if (hound_file_beginning(file, spec, &number, &effect, room, &header) != 1) return 0;
     while (effect.kind != HOUND_WRITE_BLOCK);
-    return effect.place == 0 && held < effect.length
-           && hound_file_read_at(file->descriptor, there, (size_t)held, 0) == (int64_t)held
-           && memcmp(there, header, (size_t)held) == 0;
+    return effect.place == 0 && held < effect.length && hound_file_begins_as(file, header, held);
 }
 
-/* Begins a recording in a new file; one that exists is an error (EEXIST), or is emptied. */
-static inline int32_t hound_file_create(hound_file *file, const char *path, const hound_spec *spec, int is_durable,
-                                        int is_emptied) {
+/* Begins a recording in a new file that begins with the header of hound_file_header, and so do its next files; NULL
+   stands for that of the spec. The header is the caller's, who keeps it until the recording is closed. */
+static inline int32_t hound_file_create_with(hound_file *file, const char *path, const hound_spec *spec,
+                                             int is_durable, int is_emptied, const uint8_t *header,
+                                             uint32_t header_length) {
     uint64_t held;
-    int32_t code = hound_recorder_begin(spec, &file->recorder);
+    int32_t code;
     int flags = O_RDWR | O_CREAT | (is_emptied ? 0 : O_EXCL);
+    file->header = header, file->header_length = header_length;
+    code = hound_file_begin_recorder(file, spec);
     file->descriptor = -1, file->fault = 0, file->counted = 0, file->kind = HOUND_KIND_UNKNOWN;
     if (code == 0) code = hound_file_open(file, path, flags, is_durable, &held);
     if (code < 0) return code;
@@ -469,10 +550,17 @@ static inline int32_t hound_file_create(hound_file *file, const char *path, cons
     return code < 0 ? hound_file_give_up(file, path, !is_emptied, code) : 0;
 }
 
+/* Begins a recording in a new file; one that exists is an error (EEXIST), or is emptied. */
+static inline int32_t hound_file_create(hound_file *file, const char *path, const hound_spec *spec, int is_durable,
+                                        int is_emptied) {
+    return hound_file_create_with(file, path, spec, is_durable, is_emptied, NULL, 0);
+}
+
 /* Opens a file, and looks what it holds. */
 static inline int32_t hound_file_find_recording(hound_file *file, const char *path, int is_durable, uint64_t *length,
                                                 hound_repair_t *found) {
     int32_t code = hound_file_open(file, path, O_RDWR, is_durable, length);
+    file->header = NULL, file->header_length = 0;
     if (code < 0) return code;
     if (is_durable && (hound_file_sync(file->descriptor) < 0 || hound_file_sync_folder(path) < 0))
         file->fault = errno, code = HOUND_NOT_PERFORMED;
@@ -518,26 +606,34 @@ static inline int hound_file_continues(const hound_spec *spec, const hound_spec 
            && (spec->bytes_per_sample == 0 || held->bytes_per_sample == spec->bytes_per_sample);
 }
 
-/* Goes on with the recording at a path, whatever a kill or a loss of power has left of it. One that was cut off is
+/* Continues the recording at a path, whatever a kill or a power failure has left of it. One that was cut off is
    repaired first, by the first checkpoint; or here, where the header counts more than the file holds, or a part of a
    frame, because a recorder never cuts off what is counted. A new one begins where no file is, or one that holds less
    than the header of a new one, and nothing else. `found` is what was there; in a new file its state is whole, and all
    else 0. A file of another spec is HOUND_OTHER_FORMAT, and stays as it is. So does one that chunks follow, or whose
    header is another one and isn't all there. */
-static inline int32_t hound_file_continue(hound_file *file, const char *path, const hound_spec *spec, int is_durable,
-                                          hound_repair_t *found) {
+static inline int32_t hound_file_continue_with(hound_file *file, const char *path, const hound_spec *spec,
+                                               int is_durable, hound_repair_t *found, const uint8_t *header,
+                                               uint32_t header_length) {
     uint64_t length = 0;
     int32_t code = hound_file_find_recording(file, path, is_durable, &length, found);
     if (code == HOUND_ENDED || (code < 0 && file->fault == ENOENT)) {
         memset(found, 0, sizeof *found);
-        code = hound_file_create(file, path, spec, is_durable, HOUND_FILE_IF_EMPTY);
+        code = hound_file_create_with(file, path, spec, is_durable, HOUND_FILE_IF_EMPTY, header, header_length);
         if (file->fault == EEXIST) file->fault = 0, code = HOUND_ENDED;
         return code;
     }
+    file->header = header, file->header_length = header_length;
     if (code < 0) return code;
     code = hound_file_continues(spec, &found->spec) ? hound_file_resume(file, found, HOUND_MEND) : HOUND_OTHER_FORMAT;
     if (code == HOUND_TRUNCATED || code == HOUND_UNFINISHED_FRAME) code = hound_file_resume_repaired(file, length);
     return code < 0 ? hound_file_give_up(file, path, 0, code) : 0;
+}
+
+/* The same of files that begin with the header of their spec. */
+static inline int32_t hound_file_continue(hound_file *file, const char *path, const hound_spec *spec, int is_durable,
+                                          hound_repair_t *found) {
+    return hound_file_continue_with(file, path, spec, is_durable, found, NULL, 0);
 }
 
 /* Makes the header count all samples. */
@@ -596,7 +692,8 @@ static inline uint64_t hound_file_frames_left(const hound_file *file, uint64_t m
    closed. Where only the system's close fails, the new file is the one that is recorded to. */
 static inline int32_t hound_file_next(hound_file *file, const char *path, const hound_spec *spec) {
     hound_file next;
-    int32_t code = hound_file_create(&next, path, spec, file->is_durable, 0), closed;
+    int32_t code = hound_file_create_with(&next, path, spec, file->is_durable, 0, file->header, file->header_length),
+            closed;
     if (code < 0) return file->fault = next.fault, code;
     code = hound_file_checkpoint(file);
     if (code < 0) return hound_file_give_up(&next, path, 1, code);

@@ -8,7 +8,8 @@
    fsync (_commit): then the file has its checkpoints after a loss of power, too, but Windows may lose the name of a
    new one. Without it a sync does nothing, since what was written is with the system. After an error the program
    continues, and prints how many samples were lost; why, it says on standard error. It ends at the name of a next file
-   that exists.
+   that exists. With --chunk NAME=FILE each file has a chunk of this name, such as bext, with what FILE holds, before
+   its samples; of a file that is continued the chunks stay as they are.
      cc -Ibindings/c bindings/c/record.c bindings/lib/x86_64-linux/libhound_c.a -o record
      arecord -t raw -f S16_LE -r 48000 -c 2 | ./record take.wav 48000 2 16 240000 --durable */
 #include "hound_file.h"
@@ -33,6 +34,52 @@ static uint64_t number_of(const char *name, const char *word, uint32_t most) {
     if (number > 0 && number <= most && !*end) return number;
     snprintf(why, sizeof why, "%s is %.40s, and not a whole number from 1 to %lu", name, word, (unsigned long)most);
     return stop(why), 0;
+}
+
+/* Chunks before the samples, one after the other, and the header of a file that has them. */
+static uint8_t *chunks, *header;
+static size_t chunks_length;
+static uint32_t header_length;
+
+static uint8_t *enlarged(uint8_t *bytes, size_t length) {
+    bytes = (uint8_t *)realloc(bytes, length);
+    if (!bytes) stop("there is no memory for a chunk");
+    return bytes;
+}
+
+/* Adds the chunk that an argument NAME=FILE is. */
+static void add_chunk(const char *word) {
+    uint8_t *content = NULL;
+    size_t length = 0, room = 0;
+    int64_t added;
+    int descriptor, fault;
+    if (strlen(word) < 6 || word[4] != '=') stop("a chunk is NAME=FILE, where NAME has four characters");
+    descriptor = hound_file_open_at(word + 5, O_RDONLY);
+    if (descriptor < 0) stop(strerror(errno));
+    do {
+        room = 2 * room + 4096;
+        content = enlarged(content, room);
+        length += hound_file_take(descriptor, content + length, room - length, &fault);
+    } while (length == room);
+    hound_file_close_at(descriptor);
+    if (fault) stop(strerror(fault));
+    chunks = enlarged(chunks, chunks_length + length + HOUND_FILE_CHUNK_BYTES);
+    added = hound_file_chunk(word, content, length, chunks + chunks_length, length + HOUND_FILE_CHUNK_BYTES);
+    if (added < 0) stop(hound_error_text(added));
+    chunks_length += (size_t)added;
+    free(content);
+}
+
+/* Makes the header, where there are chunks. */
+static void make_header(const hound_spec *spec) {
+    size_t room = chunks_length + HOUND_HEADER_BYTES + HOUND_FILLER_BYTES;
+    int64_t length;
+    if (chunks_length == 0) return;
+    header = enlarged(NULL, room);
+    length = hound_file_header(spec, chunks, chunks_length, header, room);
+    if (length == HOUND_NO_DATA_CHUNK) stop("no chunk may be named data or \"fmt \"");
+    if (length < 0) stop(hound_error_text(length));
+    header_length = (uint32_t)length;
 }
 
 /* What a call returned; why it failed is said, if the system did. */
@@ -72,7 +119,7 @@ int main(int argc, char **argv) {
     char room[HOUND_FILE_SENTENCE];
     hound_repair_t found;
     static const char usage[] = "usage: record FILE RATE CHANNELS BITS FRAMES [--durable] [--append | --overwrite]"
-                                " [--split FRAMES]\nRATE is in Hz, and no number has a unit";
+                                " [--split FRAMES] [--chunk NAME=FILE]..\nRATE is in Hz, and no number has a unit";
     static const char *const names[4] = {"RATE", "CHANNELS", "BITS", "FRAMES"};
     static const uint32_t most[4] = {UINT32_MAX, UINT16_MAX, 32, UINT32_MAX};
     uint64_t numbers[4] = {0}, split = 0, has_room;
@@ -84,6 +131,7 @@ int main(int argc, char **argv) {
         else if (i >= 6 && !strcmp(argv[i], "--overwrite")) is_overwritten = 1;
         else if (i >= 6 && i + 1 < argc && !strcmp(argv[i], "--split"))
             is_split = 1, split = number_of("--split", argv[++i], UINT32_MAX);
+        else if (i >= 6 && i + 1 < argc && !strcmp(argv[i], "--chunk")) add_chunk(argv[++i]);
         else if (i >= 6) stop(usage);
         else numbers[i - 2] = number_of(names[i - 2], argv[i], most[i - 2]);
     }
@@ -92,8 +140,11 @@ int main(int argc, char **argv) {
     if (is_split) check_second(argv[1]);
     hound_spec spec = {(uint32_t)numbers[0], (uint16_t)numbers[1], (uint16_t)numbers[2],
                        (uint16_t)((numbers[2] + 7) / 8), HOUND_INT};
-    int32_t code = is_appended ? hound_file_continue(&file, argv[1], &spec, is_durable, &found)
-                               : hound_file_create(&file, argv[1], &spec, is_durable, is_overwritten);
+    make_header(&spec);
+    int32_t code = is_appended
+                       ? hound_file_continue_with(&file, argv[1], &spec, is_durable, &found, header, header_length)
+                       : hound_file_create_with(&file, argv[1], &spec, is_durable, is_overwritten, header,
+                                                header_length);
     if (file.fault == EEXIST) stop("the file exists: --append continues it, --overwrite empties it");
     if (code < 0) stop(hound_file_reason(&file, code, room));
     hound_file_set_binary(0);

@@ -42,6 +42,11 @@ WRONG = {
     ),
     "a file without a header stays": ("give_up(file, path, !is_emptied, code)", "give_up(file, path, 0, code)"),
     "no lock": ("flock(descriptor, LOCK_EX | LOCK_NB)", "0"),
+    "a length of data lies across two sectors": (
+        "filler = hound_filler((uint64_t)front + length, out + front - 8 + length, HOUND_FILLER_BYTES);",
+        "filler = 0;",
+    ),
+    "a next file has no chunks": ("is_durable, 0, file->header, file->header_length)", "is_durable, 0, NULL, 0)"),
     "an output that nobody reads ends it": ("signal(SIGPIPE, SIG_IGN);", ""),
     "an input without bytes yet is at its end": ("errno == EAGAIN || errno == EWOULDBLOCK", "0"),
     "a torn frame isn't reported": (
@@ -82,9 +87,9 @@ WRONG = {
     "a recording that was cut off is overwritten": ("found, HOUND_MEND) :", "found, HOUND_OVERWRITE) :"),
     "an empty file isn't begun anew": ("if (code == HOUND_ENDED || ", "if ("),
     "a file with a part of a header isn't begun anew": ("&& held < effect.length", "&& held == 0"),
-    "a file with a part of another header is emptied": ("&& memcmp(there, header, (size_t)held) == 0", ""),
+    "a file with a part of another header is emptied": ("|| memcmp(there, bytes + done, (size_t)piece)", ""),
     "a header is written in two parts": ("effect->length + next.length <= HOUND_HEADER_BYTES", "0"),
-    "a part that exists is emptied": ("spec, file->is_durable, 0), closed;", "spec, file->is_durable, 1), closed;"),
+    "a part that exists is emptied": ("file->is_durable, 0, file->header", "file->is_durable, 1, file->header"),
     "a part is ended without its last checkpoint": (
         "    code = hound_file_checkpoint(file);\n    if (code < 0) return hound_file_give_up(&next",
         "    if (code < 0) return hound_file_give_up(&next",
@@ -421,6 +426,61 @@ def in_parts(record, path):
         expect("the usage isn't said", is_rejected(run([record, path, *SHAPE, "--split", *words]), b"usage"))
 
 
+def header_with(chunks):
+    """By hand: what a file with these chunks before its samples begins with, up to the name of its data."""
+    chunks = [(b"fmt ", struct.pack("<HHIIHH", 1, 2, 48000, 192000, 4, 16)), *chunks]
+    laid_out = [name + struct.pack("<I", len(content)) + content + bytes(len(content) % 2) for name, content in chunks]
+    body = b"WAVE" + b"".join(laid_out)
+    start = 8 + len(body) + 8
+    if (start - 4) // 512 != (start - 1) // 512:  # The length of the data would lie across two sectors.
+        body += b"JUNK\2\0\0\0\0\0"
+    return body
+
+
+def chunks_before_the_samples(record, path):
+    with tempfile.TemporaryDirectory() as folder:
+        chunks_from(record, path, folder)
+
+
+def chunks_from(record, path, folder):
+    def file_of(body, data):
+        sizes = struct.pack("<I", len(body) + 8 + len(data)), struct.pack("<I", len(data))
+        return b"RIFF" + sizes[0] + body + b"data" + sizes[1] + data
+
+    content = bytes(range(1, 251)) * 3
+    given, other = (os.path.join(folder, name) for name in ("given", "other"))
+    words = [record, path, *SHAPE, "--chunk", f"bext={given}", "--chunk", f"iXML={other}"]
+    for length in 1, 8, 223, 224, 225, 226, 227, 602:  # With 225 and 226 the data would begin at byte 514.
+        chunks = content[:length], content[: length + 2]
+        for name, chunk in zip((given, other), chunks):
+            with open(name, "wb") as file:
+                file.write(chunk)
+        body = header_with([(b"bext", chunks[0]), (b"iXML", chunks[1])])
+        expect("it fails", run(words).returncode == 0)
+        expect("the chunks aren't before the samples", contents_of(path) == file_of(body, DATA))
+        expect("it isn't continued", run([*words, "--append"]).returncode == 0)
+        expect("the chunks don't stay", contents_of(path) == file_of(body, DATA * 2))
+        begun = file_of(body, b"")
+        for cut in {0, 1, 40, len(begun) // 2, len(begun) - 1}:
+            with open(path, "wb") as file:
+                file.write(begun[:cut])
+            expect("a part of its header isn't begun anew", run([*words, "--append"]).returncode == 0)
+            expect("it isn't recorded", contents_of(path) == file_of(body, DATA))
+        with open(path, "wb") as file:
+            file.write(begun[:-1].replace(b"iXML", b"iXMM"))
+        ran = run([*words, "--append"])
+        expect("a part of another header is begun anew", ran.returncode == 1 and b"iXMM" in contents_of(path))
+        os.remove(path)
+    expect("it fails in parts", run([*words, "--split", "600"]).returncode == 0)
+    parts = [contents_of(name) for name in parts_at(path)]
+    expect("not each part has the chunks", parts == [file_of(body, DATA[:2400]), file_of(body, DATA[2400:])])
+    for name in parts_at(path):
+        os.remove(name)
+    for chunk in f"data={given}", f"fmt ={given}", f"bex={given}", "bext", f"bext={given}.not", "bext=":
+        ran = run([record, path, *SHAPE, "--chunk", chunk])
+        expect(f"{chunk} isn't rejected", ran.returncode == 1 and ran.stderr and not os.path.exists(path))
+
+
 def wrong_numbers(record, path):
     """Words with a unit, as hound-wav takes them, and others that are no numbers: each is named."""
     for place, name in enumerate(("RATE", "CHANNELS", "BITS", "FRAMES", "--split")):
@@ -490,6 +550,7 @@ def part_that_has_no_room(record, path):
 
 CHECKS = [
     in_parts,
+    chunks_before_the_samples,
     wrong_numbers,
     part_that_exists,
     second_part_that_can_t_be_made,
