@@ -233,12 +233,18 @@ export function findDamageInFile(path: string | URL): Promise<Damage>;
  * recorder is as before. A block that is larger than a file may be is written as several: after an error those before
  * the failed one are in their files, and the error of such a block has their frames in `framesWritten`: write only the
  * others again.
+ *
+ * Each file has the `chunks` before its samples, such as `[["bext", bytes]]`. A kill leaves nothing of a new file, a
+ * part of its header, or a file of no samples, and `continueFile` with the same chunks continues each of these.
  */
 export function record(
   path: string | URL,
   format: Format & { bitsPerSample: number },
-  options?: { durable?: boolean; exclusive?: boolean; split?: number },
+  options?: { durable?: boolean; exclusive?: boolean; split?: number; chunks?: Iterable<Chunk> },
 ): Promise<Recorder>;
+
+/** A chunk: its name, which has four characters of ASCII and is neither "data" nor "fmt ", and its content. */
+export type Chunk = readonly [name: string, content: Uint8Array | ArrayBuffer];
 
 /** Records after the frames of a file at a path, in Node. What `append` rejects is an error. */
 export function appendTo(path: string | URL, options?: { durable?: boolean }): Promise<Recorder>;
@@ -248,12 +254,13 @@ export function appendTo(path: string | URL, options?: { durable?: boolean }): P
  * of power. A recording that was cut off continues after all whole frames that it holds. A new one begins where no file
  * is, or one that holds a part of such a header and nothing else, as a kill leaves it. Where the header counts more
  * than the file holds, or a part of a frame, the file is repaired first. A file of another format is an error
- * ("OTHER_FORMAT"), and so are chunks or a tag after the data; then it stays as it is.
+ * ("OTHER_FORMAT"), and so are chunks or a tag after the data; then it stays as it is. A new file has the `chunks` before
+ * its samples; those of one that is continued stay as they are.
  */
 export function continueFile(
   path: string | URL,
   format: Format & { bitsPerSample: number },
-  options?: { durable?: boolean },
+  options?: { durable?: boolean; chunks?: Iterable<Chunk> },
 ): Promise<Recorder>;
 
 /**

@@ -669,6 +669,46 @@ function headerOf(spec, samples) {
   return shared.bytes.slice(HEADER, HEADER + length);
 }
 
+/** The bytes of a chunk: its name, the length of its content, this, and a byte of 0 where the length is odd. */
+function chunkOf([name, content]) {
+  if (typeof name !== "string" || !/^[\x20-\x7e]{4}$/.test(name)) {
+    throw new TypeError(`a chunk is named ${String(name)}, and not by four characters of ASCII`);
+  }
+  if (!(content instanceof Uint8Array || content instanceof ArrayBuffer)) {
+    throw new TypeError(`the content of the chunk ${name} is no Uint8Array and no ArrayBuffer`);
+  }
+  const bytes = new Uint8Array(content), chunk = new Uint8Array(8 + bytes.length + bytes.length % 2);
+  for (let i = 0; i < 4; i++) chunk[i] = name.charCodeAt(i);
+  new DataView(chunk.buffer).setUint32(4, bytes.length, true);
+  chunk.set(bytes, 8);
+  return chunk;
+}
+
+/** The header of a file of no samples with these chunks before its data. All four bytes of the data length are in one
+    sector of a disk, which a power failure stores whole or not. */
+function headerWith(spec, chunks) {
+  const plain = headerOf(spec, 0), end = plain.length - 8, before = joined([plain.subarray(0, end), ...chunks]);
+  const filler = checked(shared.call("filler", before.length + 8, shared.at(HEADER), FIRST - HEADER));
+  const header = joined([before, shared.bytes.slice(HEADER, HEADER + filler), plain.subarray(end)]);
+  shared.putSpec(spec);
+  checked(shared.call("sizes", shared.at(SPEC), header.length, 0, shared.at(HEADER), FIRST - HEADER));
+  header.set(shared.bytes.subarray(HEADER, HEADER + 4), 4);
+  return header;
+}
+
+/** That header for a recording, or none without chunks. A walk over it finds whether they are no other fmt or data. */
+async function headerFor(spec, given) {
+  if (given === undefined) return undefined;
+  const chunks = Array.from(given, chunkOf);
+  await ready();
+  const header = headerWith(spec, chunks), found = await info(header);
+  const isTheirs = found.dataStart === header.length && found.frames === 0;
+  if (!isTheirs || chunks.some((chunk) => String.fromCharCode(...chunk.subarray(0, 4)) === "fmt ")) {
+    throw new TypeError('no chunk may be named data or "fmt "');
+  }
+  return header;
+}
+
 /** Makes the file of these samples. `bitsPerSample` is the width of the samples unless it is given. With `dither`
     floats that become integers get triangular noise of at most one step before they are rounded, by a generator of this
     `seed`. */
@@ -1149,13 +1189,15 @@ async function syncFolder({ open, realpath }, path) {
   await folder.sync().finally(() => folder.close());
 }
 
-/** The effects with which a file begins. Writes that follow one another are one, so that no kill comes between the two
-    parts of a header. */
-function beginningOf(spec) {
+/** The effects with which a file begins, with this header or that of its spec. Writes that follow one another are one,
+    so that no kill comes between the two parts of a header. */
+function beginningOf(spec, header) {
   const machine = new Machine("effect"), effects = [];
   for (let number = 0; ; number++) {
     shared.putSpec(spec);
-    if (checked(machine.call("beginning", shared.at(SPEC), number, shared.at(MACHINE))) === 0) return effects;
+    if (checked(machine.call("beginning", shared.at(SPEC), number, shared.at(MACHINE))) === 0) {
+      return effects.map((effect) => effect.kind === WRITE && header ? { ...effect, bytes: header } : effect);
+    }
     const { kind, place, bytes } = machine.effect, last = effects.at(-1);
     const isRest = kind === WRITE && last?.kind === WRITE && place === last.place + last.bytes.length;
     if (isRest) last.bytes = joined([last.bytes, bytes]);
@@ -1163,17 +1205,18 @@ function beginningOf(spec) {
   }
 }
 
-/** Performs the effects with which a file begins. */
-async function beginOn(handle, durable, syncName, spec) {
-  for (const effect of beginningOf(spec)) {
+/** Begins a file with this header, or that of the spec, and returns its recorder. */
+async function beginOn(handle, durable, syncName, given, header) {
+  for (const effect of beginningOf(given.spec, header)) {
     await (effect.kind === SYNC_FOLDER ? syncName() : performOn(handle, durable, effect));
   }
+  return header ? resumedOn(handle, durable, syncName, 0, given.spec) : given;
 }
 
 /** Whether a file is less than the header with which a new one begins, and equal to it as far as it goes: then it holds
     no sample. */
-async function isUnbegun(handle, spec) {
-  const { place, bytes } = beginningOf(spec).find(({ kind }) => kind === WRITE), { size } = await handle.stat();
+async function isUnbegun(handle, spec, header) {
+  const { place, bytes } = beginningOf(spec, header).find(({ kind }) => kind === WRITE), { size } = await handle.stat();
   if (place !== 0 || size >= bytes.length) return false;
   return (await readAt(handle, { place, length: size })).every((byte, i) => byte === bytes[i]);
 }
@@ -1202,9 +1245,11 @@ async function checkPart({ access, constants, lstat }, path) {
  * With `split` a file has at most so many frames, and never more than have room. The recording of take.wav continues in
  * take-002.wav, take-003.wav and so on, each of which mustn't be there: of the second one that is looked at first, of
  * each before the file before it is ended. They stay in one folder, wherever the program changes to.
+ *
+ * Each file has the `chunks` before its samples, which are pairs of a name and its content.
  */
 export async function record(path, format, options = {}) {
-  const { split, ...how } = checkedOptions(options, ["durable", "exclusive", "split"]);
+  const { split, ...how } = checkedOptions(options, ["durable", "exclusive", "split", "chunks"]);
   if (split === undefined) return recordOne(path, format, how);
   if (split !== Infinity) integer("split", split, 1, Number.MAX_SAFE_INTEGER);
   const fs = await files(), first = path instanceof URL ? path : (await nodePaths()).resolve(String(path));
@@ -1230,14 +1275,11 @@ function begun(given) {
 }
 
 /** Records to one file. */
-async function recordOne(path, format, { durable = false, exclusive = false }) {
+async function recordOne(path, format, { durable = false, exclusive = false, chunks }) {
   const spec = specFor({}, format ?? {}), flags = exclusive ? ["O_CREAT", "O_EXCL"] : ["O_CREAT"];
   await files();
-  const given = begun(spec);
-  return recorderOf(path, flags, durable, async (handle, syncName) => {
-    await beginOn(handle, durable, syncName, given.spec);
-    return given;
-  });
+  const given = begun(spec), header = await headerFor(spec, chunks);
+  return recorderOf(path, flags, durable, (handle, syncName) => beginOn(handle, durable, syncName, given, header));
 }
 
 /** The recorder that appends to a file of Node, and its spec. */
@@ -1257,18 +1299,16 @@ export async function appendTo(path, options = {}) {
  * Goes on with the recording at a path, in Node, whatever a kill or a loss of power has left of it: after all whole
  * frames of one that was cut off, or from the start where no file is, or one that holds less than the header of a new
  * one and nothing else. Where the header counts more than the file holds, or a part of a frame, the file is repaired
- * first, because a recorder never cuts off what is counted. A file of another spec is an error, and stays as it is.
+ * first, because a recorder never cuts off what is counted. A file of another spec is an error, and stays as it is. A
+ * new file has the `chunks` before its samples; those of one that is continued stay as they are.
  */
 export async function continueFile(path, format, options = {}) {
-  const { durable = false } = checkedOptions(options, ["durable"]);
+  const { durable = false, chunks } = checkedOptions(options, ["durable", "chunks"]);
   const spec = specFor({}, format ?? {});
   await files();
-  const given = begun(spec);
+  const given = begun(spec), header = await headerFor(spec, chunks);
   return recorderOf(path, ["O_CREAT"], durable, async (handle, syncName) => {
-    if (await isUnbegun(handle, given.spec)) {
-      await beginOn(handle, durable, syncName, given.spec);
-      return given;
-    }
+    if (await isUnbegun(handle, given.spec, header)) return beginOn(handle, durable, syncName, given, header);
     const resume = () => resumedOn(handle, durable, syncName, MEND, given.spec);
     return resume().catch(async (error) => {
       if (!["TRUNCATED", "UNFINISHED_FRAME"].includes(error.code)) throw error;

@@ -241,6 +241,68 @@ test("arguments and files that can't be recorded to", async () => {
   assert.deepEqual(await content(), fileOf([block(2)]));
 });
 
+/** By hand: a file of SPEC with these chunks before its samples. */
+function fileWith(chunks, data) {
+  const laidOut = chunks.map(([name, content]) => {
+    const size = Buffer.alloc(4);
+    size.writeUInt32LE(content.length);
+    return Buffer.concat([Buffer.from(name), size, content, Buffer.alloc(content.length % 2)]);
+  });
+  const plain = fileOf([]), end = plain.length - 8, tag = Buffer.from("data"), [riff, size] = [4, 4].map(Buffer.alloc);
+  let front = Buffer.concat([plain.subarray(0, end), ...laidOut]);
+  const start = front.length + 8;
+  if (Math.floor((start - 4) / 512) !== Math.floor((start - 1) / 512)) {
+    front = Buffer.concat([front, Buffer.from("JUNK\x02\0\0\0\0\0")]);
+  }
+  riff.writeUInt32LE(front.length + data.length + data.length % 2);
+  riff.copy(front, 4);
+  size.writeUInt32LE(data.length);
+  return Buffer.concat([front, tag, size, data, Buffer.alloc(data.length % 2)]);
+}
+
+test("chunks before the samples, of each file and of one that is continued", async () => {
+  const data = fileOf([block(2)]).subarray(fileOf([]).length);
+  const bytes = Buffer.from(Array.from({ length: 700 }, (_, i) => i));
+  for (const length of [0, 1, 8, ...Array.from({ length: 12 }, (_, i) => 218 + i), 602]) {
+    const chunks = [["bext", bytes.subarray(0, length)], ["iXML", bytes.subarray(0, length + 2)]];
+    const whole = fileWith(chunks, data), begun = fileWith(chunks, data.subarray(0, 0));
+    const recorded = async (recorder) => {
+      await recorder.write(block(2));
+      await recorder.close();
+      assert.ok((await content()).equals(whole), `chunks of ${length} bytes`);
+    };
+    await recorded(await record(take, SPEC, { chunks }));
+    const appended = await continueFile(take, SPEC, { chunks });
+    await appended.write(block(2));
+    await appended.close();
+    assert.ok((await content()).equals(fileWith(chunks, Buffer.concat([data, data]))));
+    // What a kill leaves of its header.
+    for (const cut of [0, 1, 40, begun.length >> 1, begun.length - 1, begun.length]) {
+      await fs.writeFile(take, begun.subarray(0, cut));
+      await recorded(await continueFile(take, SPEC, { chunks }));
+    }
+    const other = Buffer.from(begun.subarray(0, -1));
+    other[13] ^= 1;
+    await fs.writeFile(take, other);
+    await assert.rejects(continueFile(take, SPEC, { chunks }), { name: "HoundError" });
+    assert.ok((await content()).equals(other));
+    const parts = await record(take, SPEC, { split: 2, chunks, durable: true });
+    await parts.write(block(2));
+    await parts.write(block(2));
+    await parts.close();
+    const chunksOf = (file) => file.subarray(8, begun.length - 8); // Between the two sizes.
+    for (const name of parts.paths) assert.deepEqual(chunksOf(await fs.readFile(name)), chunksOf(begun));
+    for (const name of parts.paths.slice(1)) await fs.rm(name);
+  }
+  await fs.writeFile(take, "older");
+  for (const [chunks, message] of [
+    [[["data", bytes]], /^no chunk may be named data/], [[["fmt ", bytes]], /^no chunk may be named data/],
+    [[["bex", bytes]], /^a chunk is named bex,/], [[["b\u20acxt", bytes]], /^a chunk is named/],
+    [[["bext", "text"]], /^the content of the chunk bext is no Uint8Array/], [7, /./],
+  ]) await assert.rejects(record(take, SPEC, { chunks }), { name: "TypeError", message });
+  assert.equal(String(await content()), "older");
+});
+
 test("what is no regular file is rejected at once, also by the command", async () => {
   const fifo = path.join(folder, "fifo");
   spawnSync("mkfifo", [fifo]);
