@@ -241,7 +241,7 @@ typedef struct {
     int has_rest;   /* a part of a block that failed couldn't be cut off: a repair would take it for samples */
     uint32_t counted; /* how many bytes of samples the header counts */
     int32_t kind;     /* what hound_kind returned for a file that wasn't appended to or repaired */
-    const uint8_t *header; /* with which each file of the recording begins, or NULL: the caller's, see hound_file_header */
+    const uint8_t *header; /* with which each file of the recording begins: the caller's, or NULL (hound_file_header) */
     uint32_t header_length;
     hound_recorder recorder;
 } hound_file;
@@ -414,11 +414,11 @@ static inline int hound_file_perform_at(hound_file *file, const char *path, houn
     return !file->fault;
 }
 
-/* A header of a file's own, and the chunk that hound_file_header lays out in it. */
+/* How many bytes a chunk has at most beside its content. */
 enum { HOUND_FILE_CHUNK_BYTES = 9 };
 
-/* Lays out a chunk: its name of four characters, its length, the content, and a byte of 0 where that is odd. Returns how
-   many bytes it has, at most HOUND_FILE_CHUNK_BYTES more than the content; HOUND_NO_ROOM; or HOUND_TOO_LONG. */
+/* Lays out a chunk: its name of four characters, its length, the content, and a byte of 0 where that is odd. Returns
+   how many bytes it has, at most HOUND_FILE_CHUNK_BYTES more than the content; HOUND_NO_ROOM; or HOUND_TOO_LONG. */
 static inline int64_t hound_file_chunk(const char *name, const uint8_t *content, size_t length, uint8_t *out,
                                        size_t capacity) {
     uint32_t i;

@@ -254,8 +254,8 @@ export function appendTo(path: string | URL, options?: { durable?: boolean }): P
  * of power. A recording that was cut off continues after all whole frames that it holds. A new one begins where no file
  * is, or one that holds a part of such a header and nothing else, as a kill leaves it. Where the header counts more
  * than the file holds, or a part of a frame, the file is repaired first. A file of another format is an error
- * ("OTHER_FORMAT"), and so are chunks or a tag after the data; then it stays as it is. A new file has the `chunks` before
- * its samples; those of one that is continued stay as they are.
+ * ("OTHER_FORMAT"), and so are chunks or a tag after the data; then it stays as it is. A new file has the `chunks`
+ * before its samples; those of one that is continued stay as they are.
  */
 export function continueFile(
   path: string | URL,

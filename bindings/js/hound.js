@@ -674,6 +674,7 @@ function chunkOf([name, content]) {
   if (typeof name !== "string" || !/^[\x20-\x7e]{4}$/.test(name)) {
     throw new TypeError(`a chunk is named ${String(name)}, and not by four characters of ASCII`);
   }
+  if (name === "data" || name === "fmt ") throw new TypeError(`a chunk is named ${name}, as one that each file has`);
   if (!(content instanceof Uint8Array || content instanceof ArrayBuffer)) {
     throw new TypeError(`the content of the chunk ${name} is no Uint8Array and no ArrayBuffer`);
   }
@@ -684,28 +685,17 @@ function chunkOf([name, content]) {
   return chunk;
 }
 
-/** The header of a file of no samples with these chunks before its data. All four bytes of the data length are in one
-    sector of a disk, which a power failure stores whole or not. */
-function headerWith(spec, chunks) {
+/** The header of a file of no samples with these chunks before its data, or none where no chunks are given. All four
+    bytes of the data length are in one sector of a disk, which a power failure stores whole or not. */
+function headerWith(spec, given) {
+  if (given === undefined) return undefined;
+  const chunks = Array.from(given, chunkOf);
   const plain = headerOf(spec, 0), end = plain.length - 8, before = joined([plain.subarray(0, end), ...chunks]);
   const filler = checked(shared.call("filler", before.length + 8, shared.at(HEADER), FIRST - HEADER));
   const header = joined([before, shared.bytes.slice(HEADER, HEADER + filler), plain.subarray(end)]);
   shared.putSpec(spec);
   checked(shared.call("sizes", shared.at(SPEC), header.length, 0, shared.at(HEADER), FIRST - HEADER));
   header.set(shared.bytes.subarray(HEADER, HEADER + 4), 4);
-  return header;
-}
-
-/** That header for a recording, or none without chunks. A walk over it finds whether they are no other fmt or data. */
-async function headerFor(spec, given) {
-  if (given === undefined) return undefined;
-  const chunks = Array.from(given, chunkOf);
-  await ready();
-  const header = headerWith(spec, chunks), found = await info(header);
-  const isTheirs = found.dataStart === header.length && found.frames === 0;
-  if (!isTheirs || chunks.some((chunk) => String.fromCharCode(...chunk.subarray(0, 4)) === "fmt ")) {
-    throw new TypeError('no chunk may be named data or "fmt "');
-  }
   return header;
 }
 
@@ -1278,7 +1268,7 @@ function begun(given) {
 async function recordOne(path, format, { durable = false, exclusive = false, chunks }) {
   const spec = specFor({}, format ?? {}), flags = exclusive ? ["O_CREAT", "O_EXCL"] : ["O_CREAT"];
   await files();
-  const given = begun(spec), header = await headerFor(spec, chunks);
+  const given = begun(spec), header = headerWith(spec, chunks);
   return recorderOf(path, flags, durable, (handle, syncName) => beginOn(handle, durable, syncName, given, header));
 }
 
@@ -1306,7 +1296,7 @@ export async function continueFile(path, format, options = {}) {
   const { durable = false, chunks } = checkedOptions(options, ["durable", "chunks"]);
   const spec = specFor({}, format ?? {});
   await files();
-  const given = begun(spec), header = await headerFor(spec, chunks);
+  const given = begun(spec), header = headerWith(spec, chunks);
   return recorderOf(path, ["O_CREAT"], durable, async (handle, syncName) => {
     if (await isUnbegun(handle, given.spec, header)) return beginOn(handle, durable, syncName, given, header);
     const resume = () => resumedOn(handle, durable, syncName, MEND, given.spec);

@@ -296,7 +296,7 @@ test("chunks before the samples, of each file and of one that is continued", asy
   }
   await fs.writeFile(take, "older");
   for (const [chunks, message] of [
-    [[["data", bytes]], /^no chunk may be named data/], [[["fmt ", bytes]], /^no chunk may be named data/],
+    [[["data", bytes]], /^a chunk is named data, as one/], [[["fmt ", bytes]], /^a chunk is named fmt , as one/],
     [[["bex", bytes]], /^a chunk is named bex,/], [[["b\u20acxt", bytes]], /^a chunk is named/],
     [[["bext", "text"]], /^the content of the chunk bext is no Uint8Array/], [7, /./],
   ]) await assert.rejects(record(take, SPEC, { chunks }), { name: "TypeError", message });
