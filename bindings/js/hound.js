@@ -689,7 +689,7 @@ function chunkOf([name, content]) {
     bytes of the data length are in one sector of a disk, which a power failure stores whole or not. */
 function headerWith(spec, given) {
   if (given === undefined) return undefined;
-  const chunks = Array.from(given, chunkOf);
+  const chunks = [...given].map(chunkOf);
   const plain = headerOf(spec, 0), end = plain.length - 8, before = joined([plain.subarray(0, end), ...chunks]);
   const filler = checked(shared.call("filler", before.length + 8, shared.at(HEADER), FIRST - HEADER));
   const header = joined([before, shared.bytes.slice(HEADER, HEADER + filler), plain.subarray(end)]);
