@@ -3,27 +3,23 @@ forms, and recordings from standard input."""
 import argparse
 import array
 import contextlib
-import errno
 import io
 import json
 import math
 import os
 import re
-import select
 import shlex
-import shutil
 import signal
 import sys
 import textwrap
-import time
-import types
 import warnings
-from typing import Any, Callable, Dict, Iterator, List, NamedTuple, Optional, Tuple, TypeVar
+from typing import Any, Callable, Dict, Iterator, List, NamedTuple, Optional, Tuple
 
 import hound_bindings as hound
 
-from . import conversion, disk, files, lost, parts, repairs
-from ._library import FIND_DAMAGE, FLOATS, HEADER_BYTES, INTEGERS, Advice, CRepair, described, named
+from . import conversion, disk, files, lost, parts, recording, repairs
+from ._library import FIND_DAMAGE, FLOATS, HEADER_BYTES, INTEGERS, CRepair, described, named
+from .terminal import Bar, Wrong, complain, say, sentence_of
 
 __all__ = ["main"]
 
@@ -36,59 +32,11 @@ _STATES = {
 }
 _NOT_CANONICAL = "the RIFF size or the pad byte isn't as the format asks"
 _BLOCK = 1 << 16
-# What would end a line, or be more than text for a terminal, is written as Python does in a string.
-_ESCAPES = {code: repr(chr(code))[1:-1] for code in (*range(32), *range(127, 160), 0x2028, 0x2029)}
 _FLOAT_BITS = max(bits for bits, _ in FLOATS)
 _AS_GIVEN = "--as-given joins the files that are given, in their order"
-# What pipes a microphone into `record`.
-_MICROPHONE = (
-    "arecord -t raw -f S16_LE -r 48000 -c 2 | hound-wav record take.wav --rate 48000 --channels 2 --bits 16"
-)
-_RECORDING = f"""To record a microphone by ALSA, FFmpeg or SoX:
-  {_MICROPHONE}
-  ffmpeg -v error -f alsa -i default -f wav - | hound-wav record take.wav
-  rec -q -t wav - | hound-wav record take.wav"""
 # The rate of a guess that isn't given.
 _USUAL_RATE = 48000
-# What can be done about a cause, by the names of this command.
-_ADVICE: Advice = {
-    hound.Cause.OTHER_FORMAT: "--type float32, or float64",
-    hound.Cause.TOO_WIDE: "--type int32 reads it",
-    hound.Cause.TRUNCATED: "hound-wav repair, or --to-end",
-    hound.Cause.DATA_LENGTH: "hound-wav repair, or --to-end",
-    hound.Cause.FRAME_LENGTH: "hound-wav repair, or --to-end",
-    hound.Cause.NEEDS_MEND: "hound-wav repair",
-    hound.Cause.TOO_LONG: "a WAV file has less than 4 GiB, so the rest needs another one",
-}
 _USUAL_HINT = "where a header is lost or damaged, hound-wav repair --guess or --like makes a copy with a new one"
-
-
-_Shown = TypeVar("_Shown", bound="_Line")
-
-
-class _Wrong(Exception):
-    """What can't be done, in a sentence."""
-
-
-def _say(line: str, file: Any = None) -> None:
-    """Prints what may have the name of a file in one line."""
-    with named(file or sys.stdout):
-        print(line.translate(_ESCAPES), file=file or sys.stdout)
-
-
-def _complain(sentence: str) -> None:
-    _say(f"hound-wav: {sentence}", sys.stderr)
-    sys.stderr.flush()
-
-
-def _sentence(error: Exception) -> str:
-    if isinstance(error, FileExistsError):
-        return f"{error.filename}: {error.strerror}: rename or remove it first"
-    if isinstance(error, OSError) and error.strerror:
-        return f"{error.filename}: {error.strerror}" if error.filename else error.strerror
-    if isinstance(error, hound.HoundError):
-        return error._said(_ADVICE)
-    return str(error)
 
 
 def _flush() -> None:
@@ -106,7 +54,7 @@ def _each(names: List[str], call: Callable[[str], bool], failed: Callable[[str, 
         except BrokenPipeError:
             raise
         except (OSError, ValueError) as error:
-            failed(name, _sentence(error))
+            failed(name, sentence_of(error))
             status = 1
         _flush()
     return status
@@ -132,7 +80,7 @@ def _files_of(names: List[str]) -> _Found:
         else:
             found.files.append(name)
     if not any(found):
-        raise _Wrong("no file here is named .wav or .wave")
+        raise Wrong("no file here is named .wav or .wave")
     return found
 
 
@@ -140,7 +88,7 @@ def _each_of(found: _Found, call: Callable[[str], bool], failed: Callable[[str, 
     """The same, of what is found in folders: each that couldn't be read has failed."""
     status = _each(found.files, call, failed)
     for fault in found.faults:
-        failed(fault.filename, _sentence(fault))
+        failed(fault.filename, sentence_of(fault))
     return status | bool(found.faults)
 
 
@@ -149,45 +97,10 @@ def _print_json(**facts: Any) -> None:
         print(json.dumps(facts))
 
 
-class _Line:
-    """A line that is written again and again, on a terminal alone, from so many seconds on."""
-
-    def __init__(self, seconds: float) -> None:
-        self.is_shown, self._is_there, self._next = sys.stderr.isatty(), False, time.monotonic() + seconds
-
-    def __enter__(self: _Shown) -> _Shown:
-        return self
-
-    def __exit__(self, *_: Any) -> None:
-        if self._is_there:
-            print("\r\33[K", end="", file=sys.stderr, flush=True)
-
-    def is_due(self) -> bool:
-        return self.is_shown and time.monotonic() >= self._next
-
-    def write(self, text: str) -> None:
-        self._next, self._is_there = time.monotonic() + 0.2, True
-        room = max(shutil.get_terminal_size().columns - 1, 1)
-        print(f"\r\33[K{text.translate(_ESCAPES)[:room]}", end="", file=sys.stderr, flush=True)
-
-
-class _Bar(_Line):
-    """How much is done, once it takes a second."""
-
-    def __init__(self, name: str, total: float) -> None:
-        super().__init__(1)
-        self._name, self._total = name, total
-
-    def show(self, done: float) -> None:
-        if self._total > 0 and self.is_due():
-            part = min(done / self._total, 1)
-            self.write(f"[{'#' * int(40 * part):40}] {part:4.0%} {self._name}")
-
-
 class _Watched(disk.Descriptor):
     """A file whose reads show on a bar how much of it is done."""
 
-    def __init__(self, file: disk.Descriptor, bar: _Bar) -> None:
+    def __init__(self, file: disk.Descriptor, bar: Bar) -> None:
         super().__init__(file._file)
         self._bar = bar
 
@@ -246,7 +159,7 @@ def _say_what_is_counted(name: str, chunks: Optional[lost.Chunks]) -> None:
         sentence = f"its last {chunks.length} bytes look like a {chunks.name} chunk (a title, markers)"
         part = shlex.quote(os.path.splitext(name)[0] + ".part.wav")
         leave_out = f"head -c -{chunks.length} {shlex.quote(name)} > {part}"
-        _complain(f"{name}: {sentence}, and count as sound: {leave_out} leaves them out")
+        complain(f"{name}: {sentence}, and count as sound: {leave_out} leaves them out")
 
 
 def _info(options: argparse.Namespace) -> int:
@@ -262,14 +175,14 @@ def _info(options: argparse.Namespace) -> int:
                 more.update(chunk_at_end=chunks and chunks.name)
             _print_json(file=name, **info._asdict(), seconds=info.duration, **more)
         else:
-            _say(f"{name}: {described(info)}, {_said_of(info, found)}")
+            say(f"{name}: {described(info)}, {_said_of(info, found)}")
             _say_what_is_counted(name, chunks)
         return found is None or found.state != hound.State.CUT_OFF
 
     status = _each_with_hints(_files_of(options.files), show, options)
     if len(shown) > 1 and not options.json:
         frames, seconds = sum(info.frames for info in shown), sum(info.duration for info in shown)
-        _say(f"{len(shown)} files: {frames} frames, {seconds:.3f} s")
+        say(f"{len(shown)} files: {frames} frames, {seconds:.3f} s")
     return status
 
 
@@ -287,7 +200,7 @@ def _each_with_hints(found: _Found, call: Callable[[str], bool], options: argpar
 
     status = _each_of(found, noting, _failure(options))
     for hint in [] if options.json else hints:
-        _complain(hint)
+        complain(hint)
     return status
 
 
@@ -304,7 +217,7 @@ def _failure(options: argparse.Namespace) -> Callable[[str, str], None]:
     """What says that a file failed."""
     if options.json:
         return lambda name, sentence: _print_json(file=name, error=sentence)
-    return lambda _, sentence: _complain(sentence)
+    return lambda _, sentence: complain(sentence)
 
 
 # repair
@@ -338,7 +251,7 @@ def _recover(options: argparse.Namespace) -> int:
         skip = lost.start_of(name, form.data_start) if options.skip is None else options.skip
         found = None
         if not options.dry_run:
-            with files.replaced(copy, options.durable) as part, _Bar(name, os.path.getsize(name)) as bar:
+            with files.replaced(copy, options.durable) as part, Bar(name, os.path.getsize(name)) as bar:
                 for found in lost.recovered(name, part, form, skip, options.durable):
                     bar.show(found.place)
         frames, is_rate_assumed = found.frames if found else 0, bool(guessed) and not options.rate
@@ -349,22 +262,22 @@ def _recover(options: argparse.Namespace) -> int:
                         copy=None if options.dry_run else copy)  # fmt: skip
         else:
             done = "" if options.dry_run else f": {frames} frames in {copy}"
-            _say(f"{name}: {'a guess: ' if guessed else ''}{described(form)}, from byte {skip} on{done}")
+            say(f"{name}: {'a guess: ' if guessed else ''}{described(form)}, from byte {skip} on{done}")
         if is_rate_assumed:
             assumed.append(name)
         return True
 
     status = _each_of(found_files, recover, _failure(options))
     if assumed:
-        _complain(f"{_USUAL_RATE} Hz is assumed, since no guess finds a rate: --rate HZ is that of your recorder")
+        complain(f"{_USUAL_RATE} Hz is assumed, since no guess finds a rate: --rate HZ is that of your recorder")
     return status
 
 
 def _repair(options: argparse.Namespace) -> int:
     if options.rate and not options.guess:
-        raise _Wrong("--rate is that of --guess")
+        raise Wrong("--rate is that of --guess")
     if options.skip is not None and not (options.like or options.guess):
-        raise _Wrong("--skip is that of --like and --guess")
+        raise Wrong("--skip is that of --like and --guess")
     if options.like or options.guess:
         return _recover(options)
     found_files = _files_of(options.files)
@@ -379,7 +292,7 @@ def _repair(options: argparse.Namespace) -> int:
                 return found, chunks, None
             copy = repairs.copy_name(name)
             if not options.dry_run:
-                with _Bar(name, file.size()) as bar:
+                with Bar(name, file.size()) as bar:
                     found = repairs.copied(_Watched(file, bar), copy, options.durable, **how)
             return found, chunks, copy
 
@@ -398,11 +311,11 @@ def _repair(options: argparse.Namespace) -> int:
             state, note = ("whole", _NOT_CANONICAL) if is_whole else (_STATES[found.state], "")
             done = f"repaired{f': {copy}' if copy else ''}" if is_done else note
             numbers = f"{found.frames:>11}{found.counted:>11}{seconds:>12.3f}"
-            _say(f"{state:18}{numbers}  {name}{'  ' if done else ''}{done}")
+            say(f"{state:18}{numbers}  {name}{'  ' if done else ''}{done}")
         return is_done or not is_mended
 
     if not options.json:
-        _say(f"{'found':18}{'frames':>11}{'counted':>11}{'seconds':>12}  file")
+        say(f"{'found':18}{'frames':>11}{'counted':>11}{'seconds':>12}  file")
     return _each_with_hints(found_files, repair, options)
 
 
@@ -411,7 +324,7 @@ def _repair(options: argparse.Namespace) -> int:
 
 def _blocks(name: str, reader: hound.Reader, dtype: Optional[Any]) -> Iterator[Any]:
     """The blocks of a file, with a bar."""
-    with _Bar(name, reader.info.frames) as bar:
+    with Bar(name, reader.info.frames) as bar:
         for block in reader.blocks(_BLOCK, dtype):
             yield block
             bar.show(reader.tell())
@@ -420,7 +333,7 @@ def _blocks(name: str, reader: hound.Reader, dtype: Optional[Any]) -> Iterator[A
 def _is_whole(name: str, reader: hound.Reader) -> bool:
     """Whether the samples that were read to their end are whole frames; complains if not."""
     if reader.left_over:
-        _complain(f"{name}: the last {reader.left_over} bytes are no whole frame")
+        complain(f"{name}: the last {reader.left_over} bytes are no whole frame")
     return not reader.left_over
 
 
@@ -432,7 +345,7 @@ def _cat(options: argparse.Namespace) -> int:
                     sys.stdout.buffer.write(block)
         return _is_whole(name, reader)
 
-    return _each(options.files, write, lambda _, sentence: _complain(sentence))
+    return _each(options.files, write, lambda _, sentence: complain(sentence))
 
 
 def _mixed(block: "array.array[Any]", channels: int, wanted: int) -> "array.array[Any]":
@@ -450,9 +363,9 @@ def _mixed(block: "array.array[Any]", channels: int, wanted: int) -> "array.arra
 def _form_wanted(info: hound.Info, options: argparse.Namespace) -> hound.Info:
     channels = options.channels or info.channels
     if 1 not in (channels, info.channels) and channels != info.channels:
-        raise _Wrong(f"{info.channels} channels aren't made {channels}: only one of all, or all of one")
+        raise Wrong(f"{info.channels} channels aren't made {channels}: only one of all, or all of one")
     if options.float and options.bits not in (None, _FLOAT_BITS):
-        raise _Wrong(f"floats have {_FLOAT_BITS} bits")
+        raise Wrong(f"floats have {_FLOAT_BITS} bits")
     if options.float:
         return hound.Info(info.sample_rate, channels, _FLOAT_BITS, True)
     if options.bits:
@@ -469,11 +382,11 @@ def _type_between(info: hound.Info, wanted: hound.Info, dither: int) -> Optional
 
 def _convert(options: argparse.Namespace) -> int:
     if options.rate:
-        raise _Wrong("the rate isn't changed here: sox and ffmpeg resample")
+        raise Wrong("the rate isn't changed here: sox and ffmpeg resample")
     if options.seed and not options.dither:
-        raise _Wrong("--seed is that of --dither")
+        raise Wrong("--seed is that of --dither")
     if os.path.exists(options.target) and not options.overwrite:
-        raise _Wrong(f"{options.target} exists: --overwrite replaces it")
+        raise Wrong(f"{options.target} exists: --overwrite replaces it")
     source, target = _source(options.source), options.target
     with hound.open(source, to_end=options.to_end) as reader, files.replaced(target, options.durable) as part:
         info = reader.info
@@ -487,7 +400,7 @@ def _convert(options: argparse.Namespace) -> int:
         if os.path.exists(target) and not is_whole:
             raise ValueError(f"{target} stays as it was, since not all of {options.source} was read")
     if writer.clipped:
-        _complain(f"clipped samples: {writer.clipped}")
+        complain(f"clipped samples: {writer.clipped}")
     return 0 if is_whole else 1
 
 
@@ -518,9 +431,9 @@ def _numbered(names: List[str]) -> Dict[int, str]:
     for name in names:
         first, number = parts.first_of(name)
         if os.path.abspath(first) != os.path.abspath(recording):
-            raise _Wrong(f"{name} is no part of {recording}: {_AS_GIVEN}")
+            raise Wrong(f"{name} is no part of {recording}: {_AS_GIVEN}")
         if number in numbered:
-            raise _Wrong(f"{name} is given twice: {_AS_GIVEN}")
+            raise Wrong(f"{name} is given twice: {_AS_GIVEN}")
         numbered[number] = name
     return numbered
 
@@ -535,16 +448,16 @@ def _all_parts(names: List[str]) -> List[str]:
         if number not in found:
             raise ValueError(f"{name} is missing: {_AS_GIVEN}")
         if number not in numbered and len(names) > 1:
-            raise _Wrong(f"{name} is there and isn't given: {_AS_GIVEN}, and {names[0]} alone all parts")
+            raise Wrong(f"{name} is there and isn't given: {_AS_GIVEN}, and {names[0]} alone all parts")
     return list(found.values())
 
 
 def _join(options: argparse.Namespace) -> int:
     names, target = (options.files, options.output) if options.output else (options.files[:-1], options.files[-1])
     if not names:
-        raise _Wrong("the new file is missing: join IN -o OUT")
+        raise Wrong("the new file is missing: join IN -o OUT")
     if os.path.exists(target) and not options.overwrite:
-        raise _Wrong(f"{target} exists: --overwrite replaces it")
+        raise Wrong(f"{target} exists: --overwrite replaces it")
     names = names if options.as_given else _all_parts(names)
     form = _form_of_all(names)
     with files.replaced(target, options.durable) as part:
@@ -555,308 +468,8 @@ def _join(options: argparse.Namespace) -> int:
                 with hound.open(name) as reader:
                     for block in _blocks(name, reader, None):
                         writer.write(block)
-    _say(f"{target}: {len(names)} file{'s' * (len(names) != 1)}, {form.frames} frames, {form.duration:.3f} s")
+    say(f"{target}: {len(names)} file{'s' * (len(names) != 1)}, {form.frames} frames, {form.duration:.3f} s")
     return 0
-
-
-# record
-
-
-class _Stop:
-    """Whether SIGINT, SIGTERM or SIGHUP came, which ends a recording well. After the first one they end the program
-    again. SIGHUP stays ignored where nohup lets it be."""
-
-    def __init__(self) -> None:
-        self.came = False
-        numbers = [signal.SIGINT, signal.SIGTERM]
-        if hasattr(signal, "SIGHUP") and signal.getsignal(signal.SIGHUP) != signal.SIG_IGN:
-            numbers.append(signal.SIGHUP)
-        self._before = {number: signal.signal(number, self._note) for number in numbers}
-
-    def _note(self, *_: Any) -> None:
-        self.came = True
-        self.restore()
-
-    def restore(self) -> None:
-        for number, handler in self._before.items():
-            signal.signal(number, handler)
-
-
-# What a WAV stream begins with. Only the first of these is read: of the others the error says what they are.
-_STREAMS = b"RIFF", b"RIFX", b"RF64", b"BW64"
-
-
-def _may_be_wav(front: bytes) -> bool:
-    return any((tag + front[4:8].ljust(4) + b"WAVE").startswith(front[:12]) for tag in _STREAMS)
-
-
-class _Input:
-    """Standard input, which is looked at before it is recorded. It ends where a signal comes, too."""
-
-    name = "<stdin>"
-    is_longer = False  # More came than the header of a stream counts.
-
-    def __init__(self, stop: _Stop) -> None:
-        self._stop, self._held, self._left, self._is_odd = stop, b"", math.inf, False
-
-    def next(self, count: int, seconds: float) -> Optional[bytes]:
-        """The next bytes, at most so many; none at the end, and None where no more came within this time."""
-        if self._left == 0 and self._ends():
-            return b""
-        if not self._held:
-            if not self._has_more(seconds):
-                return b"" if self._stop.came else None
-            self._held = os.read(sys.stdin.fileno(), _BLOCK)
-        count = int(min(count, self._left))
-        piece, self._held = self._held[:count], self._held[count:]
-        self._left -= len(piece)
-        return piece
-
-    def read(self, count: int) -> bytes:
-        """The same, as soon as there are some."""
-        while (piece := self.next(count, 1)) is None:
-            pass
-        return piece
-
-    def _has_more(self, seconds: float) -> bool:
-        """Whether there are bytes, or none will come, within this time, or half a second: so often a signal is looked
-        for. Windows can't say so of a pipe."""
-        if self._stop.came:
-            return False
-        return os.name == "nt" or bool(select.select([sys.stdin.buffer], [], [], min(max(seconds, 0), 0.5))[0])
-
-    def front(self, is_enough: Callable[[bytes], bool]) -> bytes:
-        """The next bytes, as many as are enough, or all: they stay to be read."""
-        front = b""
-        while not is_enough(front) and (piece := self.read(_BLOCK)):
-            front += piece
-        self._held = front + self._held
-        return front
-
-    def wav_form(self) -> Optional[hound.Info]:
-        """What the header of a WAV stream says, after which its samples are read; None where it isn't one."""
-        front = self.front(lambda front: len(front) >= 12 or not _may_be_wav(front))
-        if len(front) < 12 or not _may_be_wav(front):
-            return None
-        try:
-            return self._form_after(False)
-        except hound.HoundError as error:
-            if error.cause not in (hound.Cause.DATA_LENGTH, hound.Cause.FRAME_LENGTH):
-                raise
-        return self._form_after(True)
-
-    def _form_after(self, to_end: bool) -> hound.Info:
-        """What the header says, with which the input begins. At an error it begins with it again."""
-        taken: List[bytes] = []
-
-        def take(count: int) -> bytes:
-            taken.append(self.read(count))
-            return taken[-1]
-
-        source: Any = types.SimpleNamespace(read=take, name=self.name)
-        try:
-            info = hound.open(source, to_end=to_end).info
-        except hound.HoundError:
-            self._held = b"".join(taken) + self._held
-            raise
-        size = info.channels * info.bytes_per_sample
-        self._left, self._is_odd = info.frames * size or math.inf, bool(info.frames * size % 2)
-        return info
-
-    def _ends(self) -> bool:
-        """Whether the input ends after the samples that its header counts, or chunks follow. A program that doesn't
-        know how much it will write may count less than all: then the rest is sound, too."""
-        self._left = math.inf
-        tag = self.front(lambda front: len(front) >= 4 + self._is_odd)[self._is_odd :][:4]
-        if tag and tag not in lost._NAMES:
-            self.is_longer = True
-            return False
-        while self.read(_BLOCK):
-            pass
-        self._left = 0
-        return True
-
-
-def _clock(seconds: float) -> str:
-    return f"{int(seconds) // 3600}:{int(seconds) // 60 % 60:02}:{int(seconds) % 60:02}"
-
-
-def _decibels(peak: float) -> str:
-    return f"{20 * math.log10(peak):.1f}" if peak > 0 else "-inf"
-
-
-class _Meter(_Line):
-    """How long a recording is, how loud each channel was since it was shown last, and what its header counts."""
-
-    def __init__(self, writer: hound.Writer) -> None:
-        super().__init__(0)
-        self._writer, self._counted, info = writer, writer.tell(), writer.info
-        self._full, self._peaks = 1.0 if info.is_float else 2.0 ** (info.bits_per_sample - 1), [0.0] * info.channels
-
-    def hear(self, samples: "array.array[Any]") -> None:
-        channels = len(self._peaks)
-        if self.is_shown and samples:
-            parts = (samples[channel::channels] for channel in range(channels))
-            loudest = (max(max(part), -min(part)) / self._full for part in parts)
-            self._peaks = [max(pair) for pair in zip(self._peaks, loudest)]
-
-    def count(self) -> None:
-        """Notes a checkpoint."""
-        self._counted = self._writer.tell()
-
-    def show(self) -> None:
-        if self.is_due():
-            rate, name = self._writer.info.sample_rate, os.path.basename(os.fspath(self._writer.paths[-1]))
-            peaks = " ".join(map(_decibels, self._peaks))
-            times = [_clock(frames / rate) for frames in (self._writer.tell(), self._counted)]
-            size = self._writer._end() / (1 << 20)
-            self.write(f"{times[0]}  {peaks} dB  checkpoint at {times[1]}  {name}: {size:.1f} MiB")
-            self._peaks = [0.0] * len(self._peaks)
-
-
-def _recorded(writer: hound.Writer, source: _Input, form: hound.Info, every: float) -> int:
-    """Records an input to its end, with a checkpoint in each interval: how many bytes of a frame were left."""
-    held, last, counted = b"", time.monotonic(), writer.tell()
-    channels, spec = form.channels, conversion.spec_like(form)
-    size = channels * spec.bytes_per_sample
-    with _Meter(writer) as meter:
-        while True:
-            if time.monotonic() - last >= every:
-                if counted != writer.tell():
-                    writer.flush()
-                    meter.count()
-                last, counted = time.monotonic(), writer.tell()
-            meter.show()
-            # With --split a file has exactly so many frames, however the samples come.
-            room = (writer.frames_left or _BLOCK) * size - len(held)
-            piece = source.next(min(_BLOCK, room), last + every - time.monotonic())
-            if piece is None:
-                continue
-            if not piece:
-                return len(held)
-            held += piece
-            count = len(held) // size
-            samples = conversion.decoded(held, count * channels, spec)
-            writer.write(samples)
-            meter.hear(samples)
-            held = held[count * size :]
-
-
-def _exists(name: str) -> ValueError:
-    return ValueError(f"{name} exists: --append continues it, --overwrite empties it")
-
-
-def _check_options_of_record(options: argparse.Namespace) -> bool:
-    """Whether the options say what the samples are; an error where they contradict one another."""
-    given = options.rate, options.channels, options.bits
-    if options.append and options.overwrite:
-        raise _Wrong("a file is continued, or emptied: --append, or --overwrite")
-    if (any(given) or options.float) and not all(given) and (options.append or options.raw):
-        raise _Wrong("--rate, --channels and --bits are given together, or none of them")
-    if sys.stdin.isatty() and not all(given) and not options.append:
-        raise _Wrong(f"--rate, --channels and --bits are needed, or a WAV stream in a pipe, as {_MICROPHONE}")
-    return all(given)
-
-
-def _form_to_record(options: argparse.Namespace, source: _Input) -> hound.Info:
-    """What the samples of the input are: by the header of a WAV stream, by the options, or by the file that is
-    continued."""
-    is_given = _check_options_of_record(options)
-    if not options.append and not options.overwrite and os.path.lexists(options.target):
-        raise _exists(options.target)
-    if sys.stdin.isatty():
-        _complain(f"samples are read from this terminal: to record a microphone pipe it in, as {_MICROPHONE}")
-    form = None if options.raw else source.wav_form()
-    if form is not None:
-        _check_stream(form, options)
-        return form
-    if is_given:
-        return hound.Info(options.rate, options.channels, options.bits, options.float)
-    if not options.append:
-        raise _Wrong("--rate, --channels and --bits are needed, or --append, or a WAV stream")
-    try:
-        with repairs.found_at(options.target, FIND_DAMAGE) as (_, found):
-            return repairs.header_of(found)
-    except FileNotFoundError:
-        raise ValueError(f"{options.target} isn't there: --rate, --channels and --bits begin it") from None
-    except hound.HoundError as error:
-        if error.cause == hound.Cause.ENDED:
-            raise ValueError(f"{options.target} has no header: --rate, --channels and --bits begin it anew") from None
-        raise
-
-
-def _check_stream(form: hound.Info, options: argparse.Namespace) -> None:
-    """An error where the options say something else than the header of a stream."""
-    said = {"rate": form.sample_rate, "channels": form.channels, "bits": form.bits_per_sample, "float": form.is_float}
-    for name, value in said.items():
-        given = getattr(options, name)
-        if given and given != value:
-            what = f"the input is a WAV stream of {described(form)}, and not of --{name}"
-            raise _Wrong(f"{what}{'' if given is True else f' {given}'}: --raw records its bytes as they are")
-
-
-def _opened_to_record(options: argparse.Namespace, form: hound.Info) -> hound.Writer:
-    # Its bytes a sample are those of the file: samples of 24 bits may have three or four.
-    more = {"like": form._replace(bytes_per_sample=0), "durable": options.durable}
-    more["split"] = options.split(form) if options.split else None
-    if options.append:
-        writer = hound.resume(options.target, **more)
-    else:
-        writer = hound.create(options.target, **more, exclusive=not options.overwrite)
-    if not options.split:
-        writer._split(sys.maxsize)  # The second file is looked for where the first one has no more room.
-    return writer
-
-
-def _record(options: argparse.Namespace) -> int:
-    stop = _Stop()
-    try:
-        source = _Input(stop)
-        form = _form_to_record(options, source)
-        return _record_as(options, source, form)
-    finally:
-        stop.restore()
-
-
-def _record_as(options: argparse.Namespace, source: _Input, form: hound.Info) -> int:
-    folder = os.path.dirname(options.target)
-
-    def as_given(path: Any) -> str:
-        """The name of a file beside the target, as that is given."""
-        name: str = os.path.join(folder, os.path.basename(path))
-        return name if os.path.abspath(name) == os.path.abspath(path) else str(path)
-
-    try:
-        writer = _opened_to_record(options, form)
-        before = len(writer.paths) - 1  # those of a recording in parts that is continued
-        try:
-            with writer:
-                left = _recorded(writer, source, form, options.checkpoint)
-        finally:
-            # Also where a write failed, whose error is said, too.
-            is_read = all([_say_what_is_kept(as_given(path)) for path in writer.paths[before:]])
-    except (OSError, hound.HoundError) as error:
-        if error.filename is not None:
-            error.filename = as_given(error.filename)
-        if isinstance(error, FileExistsError) and error.filename == options.target:
-            raise _exists(options.target) from None
-        raise
-    if source.is_longer:
-        _complain("more came than the header of the stream counts, and is recorded, too")
-    if left:
-        _complain(f"the last {left} bytes are no whole frame")
-    return 1 if left or not is_read else 0
-
-
-def _say_what_is_kept(name: str) -> bool:
-    """Says what the header of a recording counts, and whether it can be read."""
-    try:
-        info = hound.info(name)
-    except (OSError, ValueError) as error:
-        _complain(f"what is recorded can't be read: {_sentence(error)}")
-        return False
-    _say(f"{name}: {described(info)}, {info.frames} frames, {info.duration:.3f} s", sys.stderr)
-    return True
 
 
 # The arguments
@@ -1011,7 +624,7 @@ def _parser() -> argparse.ArgumentParser:
         "record standard input: a WAV stream, or raw samples, as the file stores them (little-endian, those of 8 bits "
         "unsigned)"
     )
-    add = command("record", _record, words, _RECORDING)
+    add = command("record", recording.record, words, recording.EXAMPLES)
     words = "has all samples up to the last checkpoint if the program is killed; Ctrl-C ends it well"
     add("target", metavar="OUT", type=_file, help=words)
     words = "frames a second, such as 48000 or 44.1k: needed for raw samples, as --channels and --bits are"
@@ -1065,13 +678,13 @@ def main(arguments: Optional[List[str]] = None) -> int:
             status: int = options.run(options)
         _flush()
         return status
-    except _Wrong as error:
-        _complain(str(error))
+    except Wrong as error:
+        complain(str(error))
         return 2
     except BrokenPipeError:
         return _end_by(getattr(signal, "SIGPIPE", None))
     except KeyboardInterrupt:
         return _end_by(signal.SIGINT)
     except (OSError, ValueError) as error:
-        _complain(_sentence(error))
+        complain(sentence_of(error))
         return _drop_output() if getattr(error, "filename", None) == sys.stdout.name else 1

@@ -17,6 +17,7 @@ import struct
 import subprocess
 import sys
 import tempfile
+import termios
 import time
 import unittest
 import unittest.mock
@@ -27,11 +28,6 @@ from test_floats import WIDE, Folder, as_float32, nearest, silently
 from test_streams import SAMPLES, content_of, forked
 from wav import CHUNK, by_hand, made_by_wave, wave_of
 
-# Runs a command whose clock is fast.
-HURRIED = (
-    "t = time.monotonic; n = iter(range(10**9)); time.monotonic = lambda: t() + 5 * next(n); import sys; "
-    "sys.exit(c.main(sys.argv[1:]))"
-)
 # What a new file begins with.
 PLAIN = by_hand(b"", channels=2, riff=0)
 FORMS = [
@@ -804,11 +800,7 @@ class Command(Folder):
     def on_a_terminal(self, *words, stdin=None, given=b""):
         """What a command says on a terminal, as its standard error, and its status."""
         outer, inner = pty.openpty()
-        env = {**os.environ, "PYTHONPATH": os.path.dirname(os.path.dirname(hound.__file__)), "COLUMNS": "100"}
-        running = subprocess.Popen(
-            [sys.executable, "-c", f"import time, hound_bindings.command as c; {HURRIED}", *words],
-            cwd=self.folder, env=env, stdin=inner if stdin is None else stdin, stdout=subprocess.PIPE, stderr=inner,
-        )  # fmt: skip
+        running = self.hurried(*words, stdin=inner if stdin is None else stdin, stderr=inner)
         os.close(inner)
         if stdin == subprocess.PIPE:
             running.stdin.write(given)
@@ -840,6 +832,40 @@ class Command(Folder):
         said, status = self.on_a_terminal("record", "c.wav")
         self.assertIn(b"--rate, --channels and --bits are needed, or a WAV stream in a pipe, as arecord ", said)
         self.assertEqual((status, os.path.exists(os.path.join(self.folder, "c.wav"))), (2, False))
+
+    def test_a_terminal_holds_no_recording_up(self):
+        """One that takes nothing after Ctrl-S, and one that is closed: all is recorded."""
+        data, form = bytes(8) * 4000, ["--rate", "8000", "--channels", "2", "--bits", "16", "--checkpoint", "0.01"]
+        for is_closed in False, True:
+            outer, inner = pty.openpty()
+            if not is_closed:
+                termios.tcflow(inner, termios.TCOOFF)
+            running = self.hurried("record", "a.wav", *form, "--overwrite", stdin=subprocess.PIPE, stderr=inner)
+            for place in range(0, len(data), 4000):
+                running.stdin.write(data[place : place + 4000])
+                running.stdin.flush()
+                self.wait_for((place + 4000) // 4)
+                if is_closed and place == 0:
+                    os.close(outer)
+            if not is_closed:
+                termios.tcflow(inner, termios.TCOON)
+            running.stdin.close()
+            running.stdout.close()
+            running.wait(30)
+            self.assertEqual(self.content("a.wav"), by_hand(data, channels=2))
+            os.close(inner)
+            if not is_closed:
+                os.close(outer)
+
+    def hurried(self, *words, **more):
+        """A command whose clock is fast."""
+        env = {**os.environ, "PYTHONPATH": os.path.dirname(os.path.dirname(hound.__file__)), "COLUMNS": "100"}
+        hurried = (
+            "t = time.monotonic; n = iter(range(10**9)); time.monotonic = lambda: t() + 5 * next(n); "
+            "import sys; sys.exit(c.main(sys.argv[1:]))"
+        )
+        command = [sys.executable, "-c", f"import time, hound_bindings.command as c; {hurried}", *words]
+        return subprocess.Popen(command, cwd=self.folder, env=env, stdout=subprocess.PIPE, **more)
 
     @unittest.skipUnless(hasattr(signal, "SIGXFSZ"), "no limit of a file's size")
     def test_record_says_what_is_kept_where_a_write_fails(self):
