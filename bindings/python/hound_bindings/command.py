@@ -237,6 +237,7 @@ def _recover(options: argparse.Namespace) -> int:
     """Makes copies of files whose header is lost: in a folder, of those alone."""
 
     assumed: List[str] = []
+    passed_over: List[str] = []
     found_files, given = _files_of(options.files), set(options.files)
 
     def recover(name: str) -> bool:
@@ -244,6 +245,7 @@ def _recover(options: argparse.Namespace) -> int:
         is_of_folder = name not in given
         if (options.guess or is_of_folder) and _has_header(name, is_of_folder):
             if is_of_folder:
+                passed_over.append(name)
                 return True
             raise ValueError(f"{name}: its header isn't lost, so nothing is guessed")
         guessed = hound.guess(name, skip=options.skip, rate=options.rate or _USUAL_RATE) if options.guess else None
@@ -268,6 +270,8 @@ def _recover(options: argparse.Namespace) -> int:
         return True
 
     status = _each_of(found_files, recover, _failure(options))
+    if passed_over == found_files.files:
+        complain("no header here is lost, so no copy is made")
     if assumed:
         complain(f"{_USUAL_RATE} Hz is assumed, since no guess finds a rate: --rate HZ is that of your recorder")
     return status

@@ -57,5 +57,6 @@ def check_next(path: Path, number: int = 2) -> None:
     with contextlib.suppress(FileNotFoundError):
         os.lstat(part_name(path, max(number, _MOST)))
     folder = os.path.dirname(os.fsdecode(path)) or os.curdir
+    os.stat(folder)  # An error where it isn't there.
     if not os.access(folder, os.W_OK | os.X_OK, effective_ids=os.access in os.supports_effective_ids):
         raise PermissionError(errno.EACCES, os.strerror(errno.EACCES), folder)

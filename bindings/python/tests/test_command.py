@@ -543,6 +543,10 @@ class Command(Folder):
         self.assertIn(b"x/e.wav holds FLAC, so it isn't read", self.said)
         self.run_command("repair", "--guess", "x/b.wav", status=1)
         self.assertIn(b"its header isn't lost", self.said)
+        for name in "x/a.wav", "x/e.wav", "x/y/c.wav":
+            os.unlink(os.path.join(self.folder, name))
+        self.assertEqual(self.run_command("repair", "--guess", "x"), b"")
+        self.assertEqual(self.said, b"hound-wav: no header here is lost, so no copy is made\n")
 
     def test_repair_of_a_lost_header(self):
         data = b"".join(stored(sample, 16, False) for sample in tones(2, 5000, random.Random(1)))

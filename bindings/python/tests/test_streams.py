@@ -1323,6 +1323,9 @@ class Parts(Case):
                 with hound.create(name, 8000, 2, 16, split=2) as writer:
                     writer.write(SAMPLES)
                 self.assertEqual(len(writer.paths), 3)
+        with self.assertRaises(FileNotFoundError) as caught:
+            hound.create(os.path.join(self.folder, "none", "a.wav"), 8000, 2, 16, split=2)
+        self.assertEqual(caught.exception.filename, os.path.join(self.folder, "none"))
         self.empty()
         hound.create(self.path, 8000, 2, 16).close()
         before = content_of(self.path)
