@@ -11,7 +11,7 @@ from ._library import (
 )  # fmt: skip
 from ._recorder import begin, beginning_of, begun, repaired, resumed
 from .parts import check_next, check_no_part, part_name, parts_at
-from .streams import Reader, Writer, with_header
+from .streams import Writer, with_header
 
 __all__ = ["resume"]
 
@@ -49,8 +49,7 @@ def resume(
     if most is not None:
         check_next(names[0], len(names) + 1)
     if spec is None and len(names) > 1:
-        with Reader(names[0]) as first:
-            spec = conversion.spec_like(first.info)
+        spec = _found_at(names[0]).spec
     writer = _resumed(names[-1], spec, durable, dither)
     try:
         if len(names) > 1:
@@ -114,15 +113,19 @@ def _mended(file: disk.Descriptor, path: str, spec: Optional[CSpec], durable: bo
     return found
 
 
+def _found_at(path: str) -> CRepair:
+    """What is found in a file that is only read."""
+    with named(path), disk.opened(path) as file:
+        return repaired(file, FIND_DAMAGE, False)
+
+
 def _frames_of_part(path: str, spec: CSpec, durable: bool) -> int:
     """How many frames an earlier file of a recording has, once it is repaired where it was cut off."""
-    with named(path):
-        with disk.opened(path) as file:
-            found = repaired(file, FIND_DAMAGE, False)
-        _check_form(path, found.spec, spec)
-        if found.state == State.CUT_OFF:
-            with disk.File(path, os.O_RDWR) as locked:
-                found = _mended(locked, path, spec, durable)
+    found = _found_at(path)
+    _check_form(path, found.spec, spec)
+    if found.state == State.CUT_OFF:
+        with named(path), disk.File(path, os.O_RDWR) as file:
+            found = _mended(file, path, spec, durable)
     return int(found.counted)
 
 

@@ -1188,6 +1188,8 @@ class Recordings(Case):
 class Parts(Case):
     """Recordings that continue in a next file."""
 
+    step = 1
+
     def setUp(self):
         folder = tempfile.TemporaryDirectory(dir="/dev/shm" if os.path.isdir("/dev/shm") else None)
         self.addCleanup(folder.cleanup)
@@ -1379,7 +1381,7 @@ class Parts(Case):
         """The next ones continue: a block is there if its write returned, whichever file it is in. Also within the
         `except`, where the traceback holds what the call had; and where there is no next one no empty file is left."""
         for durable, within, count in (False, True, 3), (False, False, 3), (False, True, 0), (True, True, 3):
-            for at in itertools.count(1 + durable, 5 if durable else 1):
+            for at in itertools.count(1 + durable, self.step * (5 if durable else 1)):
                 self.empty()
                 with warnings.catch_warnings():
                     warnings.simplefilter("ignore", ResourceWarning)  # A file is closed when it is collected.

@@ -21,13 +21,14 @@ if "hound_bindings" in sys.modules:
 # What the package may use of these modules.
 NAMES = {
     os: (
-        "O_CREAT O_EXCL O_RDONLY O_RDWR O_WRONLY PathLike SEEK_END SEEK_SET chmod close environ fsdecode fspath fstat"
-        " fsync ftruncate getpid lseek name path read stat unlink urandom write"
+        "O_CREAT O_EXCL O_RDONLY O_RDWR O_WRONLY PathLike SEEK_END SEEK_SET W_OK X_OK access chmod close curdir environ"
+        " fsdecode fspath fstat fsync ftruncate getpid listdir lseek lstat name path read stat strerror"
+        " supports_effective_ids urandom write"
     ),
     mmap: "mmap",
 }
 # What tests use of this system that Windows hasn't, or that this file has in another way.
-UNIX = "pread|_read_piece|pwrite|Calls|fcntl|fork|mkfifo|set_blocking|subprocess|_folder_|synced|may_not_replace"
+UNIX = "pread|_read_piece|pwrite|Calls|fcntl|fork|killed|Faults|mkfifo|set_blocking|subprocess|_folder_|synced|may_not_replace"
 O_BINARY = 1 << 40
 
 
@@ -57,11 +58,20 @@ def open_file(path, flags, mode=0o777):
     return os.open(path, flags & ~O_BINARY, mode)
 
 
-def replace(old, new):
+def check_not_open(path):
     for descriptor in os.listdir("/proc/self/fd"):
-        if os.path.realpath(f"/proc/self/fd/{descriptor}") == os.path.realpath(new):
-            raise denied(new)
+        if os.path.realpath(f"/proc/self/fd/{descriptor}") == os.path.realpath(path):
+            raise denied(path)
+
+
+def replace(old, new):
+    check_not_open(new)
     os.replace(old, new)
+
+
+def unlink(path):
+    check_not_open(path)
+    os.unlink(path)
 
 
 def lock_file(handle, flags, reserved, low, high, overlapped):
@@ -86,7 +96,7 @@ def imported():
     """Imports the package as on Windows."""
     windows = {"fcntl": None, "mmap": OnWindows(mmap)}
     windows["msvcrt"] = types.SimpleNamespace(get_osfhandle=lambda descriptor: HANDLE + descriptor)
-    windows["os"] = OnWindows(os, O_BINARY=O_BINARY, open=open_file, replace=replace)
+    windows["os"] = OnWindows(os, O_BINARY=O_BINARY, open=open_file, replace=replace, unlink=unlink)
     here = {name: sys.modules.get(name) for name in windows}
     sys.modules.update(windows)
     try:
@@ -99,6 +109,7 @@ def imported():
 hound = imported()
 import test_files  # noqa: E402
 import test_floats  # noqa: E402
+import test_resuming  # noqa: E402
 import test_streams  # noqa: E402
 from test_streams import SAMPLES, content_of  # noqa: E402
 from wav import made_by_wave  # noqa: E402
@@ -197,8 +208,9 @@ class Windows(test_streams.Case):
 
 
 def load_tests(loader, tests, _):
-    test_streams.Recordings.step = 7  # The tests of test_streams.py are interrupted at each bytecode.
-    cases = test_files.Files, test_streams.Streams, test_streams.Recordings
+    # The tests of test_streams.py are interrupted at each bytecode.
+    test_streams.Recordings.step = test_streams.Parts.step = 7
+    cases = test_files.Files, test_streams.Streams, test_streams.Recordings, test_streams.Parts, test_resuming.Resuming
     for case in (*cases, test_floats.Floats, test_floats.Specs, test_floats.Objects):
         for name in loader.getTestCaseNames(case):
             if not re.search(UNIX, inspect.getsource(getattr(case, name))):
