@@ -14,7 +14,7 @@ import hound_bindings as hound
 
 from . import conversion, lost, repairs
 from ._library import FIND_DAMAGE, described
-from .terminal import Line, Wrong, complain, say, sentence_of
+from .terminal import Line, Wrong, complain, note, sentence_of
 
 __all__ = ["EXAMPLES", "record"]
 
@@ -324,5 +324,5 @@ def _say_what_is_kept(name: str) -> bool:
     except (OSError, ValueError) as error:
         complain(f"what is recorded can't be read: {sentence_of(error)}")
         return False
-    say(f"{name}: {described(info)}, {info.frames} frames, {info.duration:.3f} s", sys.stderr)
+    note(f"{name}: {described(info)}, {info.frames} frames, {info.duration:.3f} s")
     return True

@@ -11,7 +11,7 @@ import hound_bindings as hound
 
 from ._library import Advice, named
 
-__all__ = ["Bar", "Line", "Wrong", "complain", "say", "sentence_of"]
+__all__ = ["Bar", "Line", "Wrong", "complain", "note", "say", "sentence_of"]
 
 # What would end a line, or be more than text for a terminal, is written as Python does in a string.
 _ESCAPES = {code: repr(chr(code))[1:-1] for code in (*range(32), *range(127, 160), 0x2028, 0x2029)}
@@ -33,15 +33,20 @@ class Wrong(Exception):
     """What can't be done, in a sentence."""
 
 
-def say(line: str, file: Any = None) -> None:
+def say(line: str) -> None:
     """Prints what may have the name of a file in one line."""
-    with named(file or sys.stdout):
-        print(line.translate(_ESCAPES), file=file or sys.stdout)
+    with named(sys.stdout):
+        print(line.translate(_ESCAPES))
+
+
+def note(line: str) -> None:
+    """Prints a line to standard error. Where that takes none, as a terminal that was closed, nobody can be told so."""
+    with contextlib.suppress(OSError):
+        print(line.translate(_ESCAPES), file=sys.stderr, flush=True)
 
 
 def complain(sentence: str) -> None:
-    say(f"hound-wav: {sentence}", sys.stderr)
-    sys.stderr.flush()
+    note(f"hound-wav: {sentence}")
 
 
 def sentence_of(error: Exception) -> str:

@@ -855,8 +855,7 @@ class Command(Folder):
                 termios.tcflow(inner, termios.TCOON)
             running.stdin.close()
             running.stdout.close()
-            running.wait(30)
-            self.assertEqual(self.content("a.wav"), by_hand(data, channels=2))
+            self.assertEqual((running.wait(30), self.content("a.wav")), (0, by_hand(data, channels=2)))
             os.close(inner)
             if not is_closed:
                 os.close(outer)
