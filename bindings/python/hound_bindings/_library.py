@@ -197,8 +197,9 @@ class HoundError(ValueError):
         if not self._role:
             return advice.get(self.cause)
         more = next((bits for bits, _ in INTEGERS if bits > (self._bits or 0)), None)
-        words = advice.get((self.cause, self._role), "")
-        return words.format(bits=more) if more or "{" not in words else None
+        if self.cause == Cause.TOO_WIDE and more is None:
+            return None  # No file holds it.
+        return advice.get((self.cause, self._role), "").format(bits=more)
 
     def _converting(self) -> str:
         """The command that converts a file, and keeps what it holds: what a number of a format names has at most 16

@@ -194,7 +194,8 @@ def _each_with_hints(found: _Found, call: Callable[[str], bool], options: argpar
         try:
             return call(name)
         except hound.HoundError as error:
-            if error.held is None:
+            # One with no more than a part of a header has lost nothing.
+            if error.held is None and os.path.isfile(name) and os.path.getsize(name) >= lost.USUAL_START:
                 hints[_hint_of_length(name) if error.cause == hound.Cause.TOO_LONG else _USUAL_HINT] = None
             raise
 

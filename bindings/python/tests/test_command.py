@@ -518,7 +518,7 @@ class Command(Folder):
             self.assertEqual(self.said, 2 * b"hound-wav: x/a.wav: no RIFF tag found\n" + hint + b"one\n")
             self.run_command(*words, "--json", "x", status=1)
             self.assertEqual(self.said, b"")
-        for content in made_by_wave(SAMPLES), by_hand(bytes(8), 4), b"fLaC" + bytes(60):
+        for content in made_by_wave(SAMPLES), by_hand(bytes(8), 4), b"fLaC" + bytes(60), PLAIN[:40], b"":
             self.leave_as("x/a.wav", content)
             for words in ["info"], ["repair"]:
                 self.begun(*words, "x").communicate(timeout=60)
