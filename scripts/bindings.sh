@@ -21,10 +21,12 @@ python_with_numpy() {
     command -v python3
 }
 
-# Writes the program of docs/BINDINGS.md, or of another page, that begins with the fence of that language.
-page() { # LANGUAGE [PAGE]
-    awk -v fence="\`\`\`$1" \
-        '$0 == fence && !done { on = 1; next } /^```/ && on { on = 0; done = 1 } on' "${2:-docs/BINDINGS.md}"
+# Writes the first program of docs/BINDINGS.md, or of another page, that begins with the fence of that language; after
+# this heading, if one is given.
+page() { # LANGUAGE [PAGE [HEADING]]
+    awk -v fence="\`\`\`$1" -v after="${3:-}" \
+        'after == "" || $0 == after { begun = 1 }
+        begun && $0 == fence && !done { on = 1; next } /^```/ && on { on = 0; done = 1 } on' "${2:-docs/BINDINGS.md}"
 }
 
 # Lines that name what a check has passed over, out of what it wrote, that of unittest included.

@@ -254,6 +254,8 @@ four_samples() { printf \
 four_samples
 page_of_python() {
     page python > "$work/page.py" && (cd "$work" && "$python" page.py) || return 1
+    page python docs/BINDINGS.md "### Chunks before the sound" > "$work/bext.py" \
+        && (cd "$work" && "$python" bext.py && tail -c +69 take.wav | grep -aq '^.*Scene 12') || return 1
     page python README.md > "$work/readme.py" && rm -f "$work/take.wav" \
         && (cd "$work" && [ "$("$python" readme.py)" = "array('h', [2, -3, 5, -7])" ]) \
         && cmp "$work/take.wav" "$work/four.wav"

@@ -67,11 +67,19 @@ def repaired(file: disk.Medium, mode: int, durable: bool, denied: Optional[Excep
     return found
 
 
-def begin(file: disk.Medium, spec: CSpec, durable: bool) -> None:
-    """Performs the effects with which a file begins."""
-    effect, given = CEffect(), ctypes.byref(spec)
+def begin(file: disk.Medium, spec: CSpec, durable: bool, header: Optional[bytes] = None) -> None:
+    """Performs the effects with which a file begins, with this header or that of the spec. Its parts are written at
+    once, so that no kill comes between them."""
+    effect, given, parts = CEffect(), ctypes.byref(spec), b""
     for number in itertools.count():
-        if checked(_beginning(given, number, ctypes.byref(effect))) == 0:
+        is_over = checked(_beginning(given, number, ctypes.byref(effect))) == 0
+        if not is_over and effect.kind == disk.WRITE and effect.place == len(parts):
+            parts += bytes(effect.bytes)[: effect.length]
+            continue
+        if parts:
+            file.put(header or parts, 0)
+            parts = b""
+        if is_over:
             return
         disk.perform(effect, file, durable)
 
@@ -83,10 +91,16 @@ def beginning_of(spec: CSpec) -> bytes:
     return memory.getvalue()
 
 
-def begun(spec: CSpec) -> CRecorder:
-    """A recorder of a file that `begin` makes."""
-    recorder = CRecorder()
-    checked(_recorder_begin(ctypes.byref(spec), ctypes.byref(recorder)))
+def begun(spec: CSpec, header: Optional[bytes] = None) -> CRecorder:
+    """A recorder of a file that `begin` makes, with the checkpoint requested that stores the header."""
+    if header is None:
+        recorder = CRecorder()
+        checked(_recorder_begin(ctypes.byref(spec), ctypes.byref(recorder)))
+        return recorder
+    found = CInfo()
+    checked(_info(header, len(header), ctypes.byref(found)))
+    recorder = resumed(CRepair(spec=found.spec, data_start=len(header), length=len(header)), 0)
+    _recorder_checkpoint(ctypes.byref(recorder))
     return recorder
 
 

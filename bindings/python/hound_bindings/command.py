@@ -651,7 +651,21 @@ def _parser() -> argparse.ArgumentParser:
         "2GiB, 600MiB, 1h, 10min or 30s; without it a new recording does so where a file has no more room (4 GiB)"
     )
     add("--split", type=_split, metavar="LENGTH", help=words)
+    words = "give each file a chunk NAME before its samples, such as bext, with what FILE holds; may be repeated"
+    add("--chunk", type=_chunk, action="append", metavar="NAME=FILE", help=words)
     return parser
+
+
+def _chunk(text: str) -> Tuple[bytes, bytes]:
+    """The name of a chunk, and what its file holds."""
+    name, sign, path = text[:4], text[4:5], text[5:]
+    if sign != "=" or not path or not name.isascii() or name in ("data", "fmt "):
+        raise argparse.ArgumentTypeError(f"{text!r} isn't NAME=FILE, where NAME has four characters, and isn't data or fmt")
+    try:
+        with open(path, "rb") as file:
+            return name.encode(), file.read()
+    except OSError as error:
+        raise argparse.ArgumentTypeError(f"{path}: {error.strerror}")
 
 
 def _end_by(number: Optional[int]) -> int:

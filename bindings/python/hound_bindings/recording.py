@@ -267,6 +267,7 @@ def _opened_to_record(options: argparse.Namespace, form: hound.Info) -> hound.Wr
     # Its bytes a sample are those of the file: samples of 24 bits may have three or four.
     more = {"like": form._replace(bytes_per_sample=0), "durable": options.durable}
     more["split"] = options.split(form) if options.split else None
+    more["chunks"] = options.chunk
     if options.append:
         writer = hound.resume(options.target, **more)
     else:

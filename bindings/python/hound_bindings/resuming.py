@@ -10,6 +10,7 @@ from ._library import (
     FIND_DAMAGE, REPAIR, CRepair, CSpec, Info, Path, State, described, info_from, integer, named,
 )  # fmt: skip
 from ._recorder import begin, beginning_of, begun, repaired, resumed
+from .chunks import Chunks, header_with
 from .parts import check_next, check_no_part, part_name, parts_at
 from .streams import Writer, with_header
 
@@ -28,6 +29,7 @@ def resume(
     like: Optional[Info] = None,
     dither: int = False,
     split: Optional[int] = None,
+    chunks: Optional[Chunks] = None,
 ) -> Writer:
     """Continues the recording at a path, whatever a kill or a loss of power left of it, or begins one: for a recorder
     that starts by itself.
@@ -38,20 +40,26 @@ def resume(
     `channels`, `bits` and `like` the file says what they are, and it has to be there with its header.
 
     A recording in parts continues in the last part; one that is missing before it is a FileNotFoundError. `paths` and
-    `tell` of the Writer count all parts. `split` is that of `create`, for this part and the next ones.
+    `tell` of the Writer count all parts. `split` is that of `create`, for this part and the next ones, and so are the
+    `chunks`, for a file that is begun; those of one that is continued stay as they are.
     """
     is_given = any(value is not None for value in (rate, channels, bits, like))
     spec = conversion.spec_of(rate, channels, bits, bytes_per_sample, is_float, like) if is_given else None
     if not isinstance(path, (str, os.PathLike)):
         raise TypeError("a recording is resumed at a path")
     most = None if split is None else integer("split", split, 1, sys.maxsize)
+    if spec is None and chunks is not None:
+        raise ValueError("chunks are for a file that may be begun: give its rate, channels and bits, too")
+    with named(path):
+        header = None if spec is None else header_with(spec, chunks)
     names = _parts_of(os.path.abspath(path))
     if most is not None:
         check_next(names[0], len(names) + 1)
     if spec is None and len(names) > 1:
         spec = _found_at(names[0]).spec
-    writer = _resumed(names[-1], spec, durable, dither)
+    writer = _resumed(names[-1], spec, durable, dither, header)
     try:
+        writer._header = header
         if len(names) > 1:
             check_no_part(part_name(names[0], len(names) + 1))  # Another recorder may have made it before the lock.
             frames = [_frames_of_part(name, writer._spec, durable) for name in names[:-1]]
@@ -73,7 +81,7 @@ def _parts_of(path: str) -> List[str]:
     return list(found.values()) or [path]
 
 
-def _resumed(path: str, spec: Optional[CSpec], durable: bool, dither: int) -> Writer:
+def _resumed(path: str, spec: Optional[CSpec], durable: bool, dither: int, header: Optional[bytes]) -> Writer:
     """A Writer that continues a file, or begins it if it has no sample yet and its spec is known."""
     conversion.noise_of(dither)
     if spec is not None:
@@ -84,9 +92,9 @@ def _resumed(path: str, spec: Optional[CSpec], durable: bool, dither: int) -> Wr
         try:
             file.folder = folder
             with named(path):
-                if spec is not None and _is_begun_anew(file, spec):
-                    begin(file, spec, durable)
-                    return with_header(Writer(file, spec, begun(spec), durable, dither))
+                if spec is not None and _is_begun_anew(file, header or beginning_of(spec)):
+                    begin(file, spec, durable, header)
+                    return with_header(Writer(file, spec, begun(spec, header), durable, dither))
                 file.sync(durable)
                 file.sync_folder(durable)
                 found = _mended(file, path, spec, durable)
@@ -96,9 +104,9 @@ def _resumed(path: str, spec: Optional[CSpec], durable: bool, dither: int) -> Wr
             raise
 
 
-def _is_begun_anew(file: disk.File, spec: CSpec) -> bool:
-    """Whether a file has no more than a part of what a new one of this spec begins with, and so no sample."""
-    whole, held = beginning_of(spec), file.size()
+def _is_begun_anew(file: disk.File, whole: bytes) -> bool:
+    """Whether a file has no more than a part of these bytes, with which a new one begins, and so no sample."""
+    held = file.size()
     return held < len(whole) and file.read_at(held, 0) == whole[:held]
 
 

@@ -20,6 +20,7 @@ from ._library import (
     HoundError, Info, Path, checked, function, info_from, integer, name_error, named,
 )  # fmt: skip
 from ._recorder import Recorder, Recording, add_to, begin, begun, found_in, repaired, resumed, walk_over, warn_of_rest
+from .chunks import Chunks, header_with
 from .parts import check_next, check_no_part, part_name
 
 __all__ = ["Reader", "Writer", "append_to", "create", "open", "with_header"]
@@ -312,6 +313,7 @@ class Writer(Recorder):
 
     _most: Optional[int] = None  # How many frames a file has at most, where the recording continues in a next one.
     _attempt: Optional[_Attempt] = None  # The last one to make a next file.
+    _header: Optional[bytes] = None  # With which each next file begins, where it has chunks.
 
     def __init__(
         self, file: Union[disk.File, disk.Stream], spec: CSpec, recorder: CRecorder, durable: bool, dither: int
@@ -487,7 +489,7 @@ class Writer(Recorder):
         check_no_part(path)
         attempt = self._attempt = _Attempt(path, [])
         try:
-            following = _create(path, self._spec, self._durable, True, False, attempt.opened)
+            following = _create(path, self._spec, self._durable, True, False, attempt.opened, self._header)
         except (FileExistsError, BlockingIOError):
             self._attempt = None  # It is another program's.
             raise
@@ -506,7 +508,7 @@ class Writer(Recorder):
         for file in attempt.opened:
             file.close()
         with contextlib.suppress(OSError):
-            if _is_bare(attempt.path):
+            if _is_bare(attempt.path, self._header):
                 os.unlink(attempt.path)
         self._attempt = None
 
@@ -546,11 +548,12 @@ class Writer(Recorder):
             self._file.close()
             self._warn_of_rest()
 
-def _is_bare(path: Path) -> bool:
-    """Whether a file has no more than a header."""
+def _is_bare(path: Path, header: Optional[bytes]) -> bool:
+    """Whether a file has no more than a header: this one, or that of its spec."""
+    length = HEADER_BYTES if header is None else len(header)
     with contextlib.suppress(OSError), io.open(path, "rb", buffering=0) as file:
-        front = file.read(HEADER_BYTES + 1)
-        return len(front) <= HEADER_BYTES and front[:4] == b"RIFF"[: len(front)]
+        front = file.read(length + 1)
+        return len(front) <= length and (header or b"RIFF").startswith(front if header else front[:4])
     return False
 
 
@@ -578,6 +581,7 @@ def create(
     like: Optional[Info] = None,
     dither: int = False,
     split: Optional[int] = None,
+    chunks: Optional[Chunks] = None,
 ) -> Writer:
     """A new file, in the place of one that is there: it has a header, and no frames yet. `like` has what isn't given.
 
@@ -590,16 +594,20 @@ def create(
     first, of each before the file before it is ended. Names that would be too long, and a folder in which nothing can
     be made, are errors before anything is recorded. All files are in the folder where a relative path is at this call,
     and `paths` has their absolute names.
+
+    Each file has the `chunks` before its samples, which are names of four bytes with their content, as [(b"bext", ..)].
     """
     spec = conversion.spec_of(rate, channels, bits, bytes_per_sample, is_float, like)
+    with named(path):
+        header = header_with(spec, chunks)
     if split is None:
-        return _create(path, spec, durable, exclusive, dither)
+        return _create(path, spec, durable, exclusive, dither, header=header)
     frames = integer("split", split, 1, sys.maxsize)
     if not isinstance(path, (str, os.PathLike)):
         raise ValueError("split is for files at a path")
     path = os.path.abspath(path)
     check_next(path)
-    writer = _create(path, spec, durable, exclusive, dither)
+    writer = _create(path, spec, durable, exclusive, dither, header=header)
     writer._split(frames)
     return writer
 
@@ -611,9 +619,10 @@ def _create(
     exclusive: bool,
     dither: int,
     opened: Optional[List[disk.File]] = None,
+    header: Optional[bytes] = None,
 ) -> Writer:
     """A Writer of a new file, whose header is stored. Where that fails it is closed, and writes nothing more."""
-    return with_header(_begun(path, spec, durable, exclusive, dither, opened))
+    return with_header(_begun(path, spec, durable, exclusive, dither, opened, header))
 
 
 def with_header(writer: Writer) -> Writer:
@@ -634,21 +643,24 @@ def _begun(
     exclusive: bool,
     dither: int,
     opened: Optional[List[disk.File]] = None,
+    header: Optional[bytes] = None,
 ) -> Writer:
     """A Writer of a new file, with the checkpoint requested that stores the header: another request takes its place."""
     with named(path):
-        recorder = begun(spec)
+        recorder = begun(spec, header)
     conversion.noise_of(dither)
     if not isinstance(path, (str, os.PathLike)):
         stream = _stream_of(path, durable, "write")
-        begin(stream, spec, durable)
+        begin(stream, spec, durable, header)
         return Writer(stream, spec, recorder, durable, dither)
     with disk.folder_of(path) if durable else contextlib.nullcontext() as folder:
         file = disk.File(path, os.O_WRONLY | os.O_CREAT | (os.O_EXCL if exclusive else 0), opened)
         try:
             file.folder = folder
-            begin(file, spec, durable)
-            return Writer(file, spec, recorder, durable, dither)
+            begin(file, spec, durable, header)
+            writer = Writer(file, spec, recorder, durable, dither)
+            writer._header = header
+            return writer
         except BaseException as error:
             file.close()
             name_error(error, path)

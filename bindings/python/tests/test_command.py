@@ -733,6 +733,20 @@ class Command(Folder):
             for name in names:
                 os.unlink(os.path.join(self.folder, name))
 
+    def test_record_has_chunks_before_the_samples(self):
+        form = ["--rate", "8000", "--channels", "1", "--bits", "16", "--chunk", "bext=b", "--chunk", "iXML=x"]
+        self.leave_as("b", b"odd")
+        self.leave_as("x", b"")
+        between = b"bext\3\0\0\0odd\0iXML\0\0\0\0"
+        self.run_command("record", "a.wav", *form, "--split", "20", given=bytes(range(100)))
+        self.run_command("record", "a.wav", *form, "--append", given=bytes(2))
+        wanted = [bytes(range(40)), bytes(range(40, 80)), bytes(range(80, 100)) + bytes(2)]
+        found = [self.content(name) for name in ("a.wav", "a-002.wav", "a-003.wav")]
+        self.assertEqual(found, [by_hand(data, between=between) for data in wanted])
+        for wrong in "data=b", "fmt =b", "bex=b", "bext", "bext=", "bext=none", "b\u20acxt=b":
+            self.run_command("record", "c.wav", *form[:6], "--chunk", wrong, status=2)
+        self.assertNotIn("c.wav", os.listdir(self.folder))
+
     def test_record_takes_a_wav_stream(self):
         """It is read by its header, whose length may be that of a program that doesn't know it, or right."""
         data, form = SAMPLES.tobytes(), ["--rate", "8000", "--channels", "2", "--bits", "16"]

@@ -157,20 +157,21 @@ class Resuming(Case):
         """Each call that changes a file may be the last one, done in part. Whatever it leaves, the next start goes on
         after all that had been written, and no start is an error."""
         kills = 0
-        for durable, turn in itertools.product((False, True), range(15)):
+        for durable, chunks, turn in itertools.product((False, True), (None, [(b"bext", bytes(range(99)))]), range(15)):
             self.empty()
             some, starts = random.Random(turn), 0
-            while self.killed(some.randrange(1, 25), some.random(), durable):
+            while self.killed(some.randrange(1, 25), some.random(), durable, chunks):
                 kills, starts = kills + 1, starts + 1
                 self.assertLess(starts, 200)
             found = array.array("h")
             for number in range(1, len(os.listdir(self.folder)) + 1):
                 found += hound.read(self.named(number))
                 self.assertEqual(hound.find_damage(self.named(number)).state, hound.State.WHOLE)
+                self.assertEqual(self.content(number).startswith(b"bext", 36), chunks is not None)
             self.assertEqual(found.tolist(), [number for number in range(40) for _ in range(2)])
-        self.assertGreater(kills, 200)
+        self.assertGreater(kills, 400)
 
-    def killed(self, last, share, durable):
+    def killed(self, last, share, durable, chunks):
         """Starts a recorder of 40 frames, and kills it in its call of this number, once a share of it is done. Whether
         it was."""
         left, write, cut = last, os.pwrite, os.ftruncate
@@ -188,7 +189,7 @@ class Resuming(Case):
                 lambda: write(*words), lambda: write(words[0], bytes(words[1])[: int(share * len(words[1]))], words[2])
             )
             os.ftruncate = lambda *words: counted(lambda: cut(*words), lambda: None)
-            with hound.resume(self.path, *FORM, split=7, durable=durable) as writer:
+            with hound.resume(self.path, *FORM, split=7, durable=durable, chunks=chunks) as writer:
                 for frame in range(writer.tell(), 40):
                     writer.write(array.array("h", [frame, frame]))
                     if frame % 3 == 0:
@@ -198,6 +199,50 @@ class Resuming(Case):
         status = os.waitpid(forked(record), 0)[1]
         self.assertIn(status, (0, signal.SIGKILL), "a start is rejected")
         return status != 0
+
+    def test_chunks_before_the_samples(self):
+        content, data = bytes(range(256)) * 3, SAMPLES.tobytes()
+        for length in (0, 1, 8, *range(218, 230), 602):
+            chunks = [(b"bext", content[:length]), (b"iXML", memoryview(content)[: length + 2])]
+            between = b"".join(
+                name + struct.pack("<I", len(part)) + part + bytes(len(part) % 2) for name, part in chunks
+            )
+            start = 12 + 24 + len(between) + 8
+            if (start - 4) // 512 != (start - 1) // 512:  # The length of the data would lie across two sectors.
+                between += b"JUNK\2\0\0\0\0\0"
+            whole = by_hand(data, between=between, channels=2)
+            begun = by_hand(b"", between=between, channels=2)
+            with hound.create(self.path, *FORM, chunks=chunks, durable=length == 8) as writer:
+                writer.write(SAMPLES)
+            self.assertEqual(self.content(), whole)
+            self.resumes(SAMPLES, *FORM, chunks=chunks)
+            self.assertEqual(self.content(), by_hand(2 * data, between=between, channels=2))
+            for cut in {0, 1, 40, len(begun) // 2, len(begun) - 1, len(begun)}:
+                self.leave(begun[:cut])
+                self.resumes(SAMPLES, *FORM, chunks=chunks)
+                self.assertEqual(self.content(), whole)
+            self.leave(begun[:-1].replace(b"iXML", b"iXMM"))
+            self.fails(Cause.ENDED, lambda: hound.resume(self.path, *FORM, chunks=chunks))
+            self.assertIn(b"iXMM", self.content())
+            memory = io.BytesIO()
+            with hound.create(memory, *FORM, chunks=chunks) as writer:
+                writer.write(SAMPLES)
+            self.assertEqual(memory.getvalue(), whole)
+            self.empty()
+            with hound.create(self.path, *FORM, split=len(SAMPLES) // 2, chunks=chunks) as writer:
+                for _ in range(3):
+                    writer.write(SAMPLES)
+            self.assertEqual([self.content(number) for number in (1, 2, 3)], [whole] * 3)
+            self.empty()
+        self.leave(whole)
+        for name, part, error in (
+            (b"data", b"", ValueError), (b"fmt ", b"", ValueError), (b"bex", b"", ValueError),
+            ("bext", b"", ValueError), (b"bext", "text", TypeError), (b"bext", 7, TypeError),
+        ):  # fmt: skip
+            self.assertRaises(error, lambda: hound.create(self.path, *FORM, chunks=[(name, part)]))
+        self.assertRaises(TypeError, lambda: hound.create(self.path, *FORM, chunks=7))
+        self.assertRaises(ValueError, lambda: hound.resume(self.path, chunks=[(b"bext", b"")]))
+        self.assertEqual(self.content(), whole)
 
 
 if __name__ == "__main__":
