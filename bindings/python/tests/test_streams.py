@@ -401,7 +401,7 @@ def content_of(path):
 
 # With which calls a durable file begins: its name is stored, and that it is empty; then its header, without the data
 # length at first, and a checkpoint.
-BEGINNING = ["sync of the folder", "sync", 0, 40, "sync", 4, 40, "sync"]
+BEGINNING = ["sync of the folder", "sync", 0, "sync", 4, 40, "sync"]
 
 
 class Calls:
