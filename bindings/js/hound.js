@@ -3,7 +3,7 @@
 // A file is a Uint8Array, an ArrayBuffer, or a Blob, of which only what is needed is read. Samples are an interleaved
 // typed array, or an array of one for each channel. No call changes its arguments. A file must not change before the
 // promise of a call over it is settled; samples may.
-import { BLOCK_LENGTH, USUAL_START, blocksOf, formOf } from "./guess.js";
+import { BLOCK_LENGTH, USUAL_START, blocksOf, formOf, startIn } from "./guess.js";
 import { module, nodeFiles, nodePaths } from "./module.js";
 
 // Each error, its code in hound.h without the sign, and its sentence there.
@@ -404,9 +404,10 @@ class Machine {
 const unknownEffect = () =>
   new Error("the WebAssembly module requests what this hound.js can't do: install both from one version");
 
+const frontOf = (perform) => perform({ kind: READ, place: 0, length: FRONT });
+
 /** Makes a call over the front of a file. */
-async function callOverFront(name, perform) {
-  const front = await perform({ kind: READ, place: 0, length: FRONT });
+function callOver(front, name) {
   shared.bytes.set(front, FIRST);
   return Number(shared.call(name, shared.at(FIRST), front.length));
 }
@@ -416,7 +417,7 @@ async function performAll(machine, name, perform, found) {
   for (;;) {
     const code = machine.call(name, shared.at(MACHINE), shared.at(FOUND));
     if (code === 0) return found();
-    if (code < 0) throw errorOf(code, await callOverFront("kind", perform));
+    if (code < 0) throw errorOf(code, callOver(await frontOf(perform), "kind"));
     const { effect } = machine;
     machine.report(effect, await perform(effect));
   }
@@ -746,7 +747,8 @@ export async function findDamage(file) {
 export async function guessStart(file) {
   const given = fileOf(file);
   await ready();
-  return Math.max(await callOverFront("guess_data", readerOf(given)), 0);
+  const front = await frontOf(readerOf(given));
+  return startIn(front, (from) => callOver(front.subarray(from), "guess_data"));
 }
 
 /**

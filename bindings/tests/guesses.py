@@ -153,8 +153,9 @@ def main():
             is_form = one is not None and tuple(one[:3]) == truth
             hits[signal].append((is_form, is_form and (one[3] - start) % (channels * bits // 8) == 0))
     if is_of_files:
-        right = sum(is_form for found in hits.values() for is_form, _ in found)
-        print(f"guesses: {len(given)} files, of which both packages guess the same; {right} of these are right")
+        forms, starts = (sum(column) for column in zip(*(one for found in hits.values() for one in found)))
+        print(f"guesses: {len(given)} files, of which both packages guess the same: of {forms} the form and channels")
+        print(f"guesses: are right, and of {starts} also where a frame begins")
         return
     table = table_of(hits)
     with open(PAGE, encoding="utf-8") as file:

@@ -110,6 +110,53 @@ test("the form of samples whose header is lost is guessed", async () => {
   await assert.rejects(guess(new Uint8Array(9), { skip: 10 }), /^RangeError: skip is 10/);
 });
 
+/** Numbers from -1 to 1, which are the same in each run. */
+function noise() {
+  let state = 3;
+  return () => (state = Math.imul(state, 1664525) + 1013904223 >>> 0) / 2 ** 31 - 1;
+}
+
+test("sound that was stored in more bits, or at twice its rate, or has noise of a high pitch, is guessed", async () => {
+  const next = noise(), like = { bitsPerSample: 16, bytesPerSample: 2, isFloat: false, channels: 1 };
+  const made = (sample) => Array.from({ length: 20001 }, (_, i) => sample(i));
+  let hiss = 0, slow = 0, high = 0;
+  const slowly = made(() => (slow = 0.9 * slow + next()) * 3000);
+  for (const samples of [
+    made(() => 256 * Math.round(hiss = 0.8 * hiss + 40 * next())), // 8 bits
+    made(() => 256 * Math.round(hiss = 0.8 * hiss + 20 * next()) + [0, 0, 0, 1, -1][Math.floor(2.5 * (next() + 1))]),
+    made((i) => i % 2 > 0 ? (slowly[i >> 1] + slowly[(i >> 1) + 1]) / 2 : slowly[i >> 1]), // twice the rate
+    made((i) => 3000 * Math.sin(i / 20) + 20 * (high = -0.6 * high + next())),
+  ]) {
+    const whole = await write(Int16Array.from(samples), { sampleRate: 8000 }), lost = whole.slice().fill(0, 0, 44);
+    assert.deepEqual(await guess(lost), { like, skip: 44 });
+    assert.deepEqual(await guess(whole.subarray(51)), { like, skip: 45 }); // cut off within a sample
+  }
+  // Where the lowest byte has little of the sound, samples that begin a byte later are quieter; but the header's place
+  // is even.
+  const rough = made(() => 256 * Math.round(hiss = 0.8 * hiss + 20 * next()) + Math.round(10 * next()));
+  const lost = (await write(Int16Array.from(rough), { sampleRate: 8000 })).fill(0, 0, 44);
+  assert.deepEqual(await guess(lost), { like, skip: 44 });
+});
+
+test("a point of a cue chunk isn't taken for the header of the data", async () => {
+  const tone = Float32Array.from({ length: 48000 }, (_, i) => Math.sin(i / 40) * Math.sin(i / 4000) / 2);
+  for (const bitsPerSample of [16, 24]) {
+    const file = await write(tone, { sampleRate: 48000, bitsPerSample }), { dataStart } = await info(file);
+    const point = (id, chunk) => [...u32(id), ...u32(0), ...text("data"), ...u32(chunk), ...u32(0), ...u32(0)];
+    const none = "\0\0\0\0";
+    for (const [tag, chunk, counted] of [["cue ", 0, 1], ["cue ", 7, 1], ["cue ", 0, 0], [none, 0, 1], [none, 0, 0]]) {
+      const cue = [...text(tag), ...u32(52), ...u32(2), ...point(1, chunk), ...point(2, chunk)];
+      const lost = Uint8Array.from([...Array(dataStart - 8).fill(0), ...cue, ...file.subarray(dataStart - 8)]);
+      const skip = dataStart + cue.length;
+      if (!counted) lost.fill(0, skip - 4, skip); // The header of a killed recorder counts nothing.
+      else lost.set(text("data"), skip + 300); // in the sound
+      assert.equal(await guessStart(lost), skip);
+      const { like, skip: found } = await guess(lost);
+      assert.deepEqual([like.bitsPerSample, like.channels, found], [bitsPerSample, 1, skip]);
+    }
+  }
+});
+
 test("24 bits take three bytes or four, and floats keep their bits", async () => {
   const three = await write(Int32Array.of(1, -1), { sampleRate: 48000, bitsPerSample: 24 });
   assert.deepEqual([...three.subarray(68)], [1, 0, 0, 255, 255, 255]);

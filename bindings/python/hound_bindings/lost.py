@@ -1,10 +1,11 @@
 """Files whose header is lost: their samples in a copy that has one, and a guess of their form."""
 import array
+import collections
 import io
 import math
 import operator
 import os
-from typing import Any, Iterator, List, NamedTuple, Optional, Tuple
+from typing import Any, Iterator, List, NamedTuple, Optional, Sequence, Tuple
 
 from . import conversion, disk, streams
 from ._library import FORMS, FRONT_BYTES, POINTER, SIZE, Info, Path, address, function, integer, named
@@ -19,12 +20,14 @@ _MOST = (1 << 63) - 1
 # are its constants.
 _BLOCKS, _BLOCK_LENGTH, _COMMON, _LEAST, _FEWEST = 16, 3072, 96, 1024, 16
 USUAL_START, _LONGER_STARTS = 44, (80, 68, 58)
+_HEAD = 12  # How many bytes come before what may look like the header of the data.
 # Of forms that are as predictable the one with the lower rank is taken, since it is more usual.
 _RANKS = {(16, False): 0, (24, False): 1, (32, True): 2, (8, False): 3, (32, False): 4}
 _TRIED = sorted(FORMS, key=_RANKS.__getitem__)
-_CHANNELS = {1: 0.0, 2: 0.25, 4: 2.0, 6: 2.0, 8: 2.0}
+_CHANNELS, _DOUBT = {1: 0.0, 2: 0.25, 4: 2.0, 6: 2.0, 8: 2.0}, 1.0
 _HIGHEST, SPARE = 16, 1.9175
 _TURNS, _LITTLE, _SOME = 1 / 3, 0.06, 0.1
+_HELP, _LITTLE_BYTE = 0.1, 4.0
 _USUAL, _SMALLEST, _LARGEST, _CLIP = 0.95, 1e-8, 2, 1 << 17
 
 
@@ -77,42 +80,64 @@ def _bits_of(square: float) -> float:
 
 
 class _Prediction(NamedTuple):
-    """How the samples of a channel are predicted best by the two before each, and how many bits what is left needs."""
+    """How the samples of a channel are predicted best by the two before each: by which weights, what is left, and how
+    many bits that needs, also without its lowest byte. `own` are the products of the samples before (1) and second
+    before them (2)."""
 
+    own: Tuple[float, float, float]
     one: float
     two: float
+    left: float
     bits: float
+    upper: float
     is_alone: bool
     is_constant: bool
 
 
+def _product(some: Sequence[int], others: Sequence[int]) -> int:
+    return sum(map(operator.mul, some, others))
+
+
+def _weights_of(first: float, second: float, own: Tuple[float, float, float]) -> Tuple[float, float]:
+    """The weights of the sample before one and of that before it by which they predict best what has these products
+    with them, by their own products."""
+    p11, p12, p22 = own
+    determinant = p11 * p22 - p12 * p12
+    if determinant > p11 * p22 * 1e-9:
+        return (first * p22 - second * p12) / determinant, (second * p11 - first * p12) / determinant
+    return (first / p11 if p11 > 0 else 0.0), 0.0
+
+
 def _predicted(samples: List[int]) -> _Prediction:
     now, before, second = samples[2:], samples[1:-1], samples[:-2]
-
-    def product(some: List[int], others: List[int]) -> int:
-        return sum(map(operator.mul, some, others))
-
     # The others are products of the same numbers, but for those at an end.
-    p00, p01, p02 = product(now, now), product(now, before), product(now, second)
+    p00, p01, p02 = _product(now, now), _product(now, before), _product(now, second)
     p11 = p00 + samples[1] ** 2 - samples[-1] ** 2
     p22 = p11 + samples[0] ** 2 - samples[-2] ** 2
     p12 = p01 + samples[0] * samples[1] - samples[-2] * samples[-1]
-    return _prediction(float(p00), float(p01), float(p02), float(p11), float(p12), float(p22), len(now))
+    return _prediction(float(p00), float(p01), float(p02), (float(p11), float(p12), float(p22)), len(now))
 
 
-def _prediction(p00: float, p01: float, p02: float, p11: float, p12: float, p22: float, count: int) -> _Prediction:
+def _prediction(p00: float, p01: float, p02: float, own: Tuple[float, float, float], count: int) -> _Prediction:
     """By the products of samples (0) with those before (1) and second before them (2), of which there are so many."""
-    determinant = p11 * p22 - p12 * p12
-    one = two = 0.0
-    if determinant > p11 * p22 * 1e-9:
-        one = (p01 * p22 - p02 * p12) / determinant
-        two = (p02 * p11 - p01 * p12) / determinant
-    elif p11 > 0:
-        one = p01 / p11
-    bits = _bits_of(max(p00 - one * p01 - two * p02, 0) / count)
+    one, two = _weights_of(p01, p02, own)
+    p22, left = own[2], max(p00 - one * p01 - two * p02, 0.0)
+    bits = _bits_of(left / count)
     of_second = _bits_of(max(p00 - p02 * p02 / p22, 0) / count) if p22 > 0 else bits
     is_alone = p02 > 0 and of_second - bits < _LITTLE and _bits_of(p00 / count) - of_second > _SOME
-    return _Prediction(one, two, bits, is_alone, p00 == 0)
+    return _Prediction(own, one, two, left, bits, _bits_of(left / count / 65536), is_alone, p00 == 0)
+
+
+def _help_of(samples: List[int], others: List[int], found: _Prediction) -> float:
+    """How many bits fewer the samples of a channel need from number 2 on, if as many of another one are known, too."""
+    first, second = float(_product(samples[1:-1], others)), float(_product(samples[:-2], others))
+    all_of_it = float(_product(others, others))
+    one, two = _weights_of(first, second, found.own)
+    rest = all_of_it - one * first - two * second
+    common = float(_product(samples[2:], others)) - found.one * first - found.two * second
+    if not rest > all_of_it * 1e-9:
+        return 0.0
+    return found.bits - _bits_of(max(found.left - common * common / rest, 0) / (len(samples) - 2))
 
 
 def _turns_of(samples: List[int], found: _Prediction) -> Tuple[int, int]:
@@ -130,6 +155,25 @@ def _channel_of(samples: List[int], channel: int, channels: int) -> List[int]:
     return [sample - middle for sample in some]
 
 
+def _lowest_bits(blocks: List[bytes], shift: int, width: int) -> float:
+    """How many bits the lowest byte of samples needs that begin after so many bytes: where that is a few, they had
+    fewer bits before they were stored."""
+
+    def logarithm(number: int) -> float:
+        return math.floor(math.log2(number) * 512 + 0.5) / 512
+
+    counts: "collections.Counter[int]" = collections.Counter()
+    for block in blocks:
+        end = shift + (len(block) - shift) // width * width
+        counts.update(block[shift:end:width])
+    count = sum(counts.values())
+    if count == 0:
+        return 8.0
+    alike = sum(times * logarithm(times) for times in counts.values())
+    bits = math.floor((logarithm(count) - alike / count) * 1024 + 0.5) / 1024
+    return 8.0 if bits > _LITTLE_BYTE else bits
+
+
 class _Look(NamedTuple):
     """How odd blocks are in a form, how many bits a byte needs then, and the channels of each block that sounds, with
     how they are predicted. A form that is odd is a last resort: its samples are never negative, or a channel is
@@ -137,22 +181,40 @@ class _Look(NamedTuple):
 
     oddness: int
     bits: float
-    channels: List[Tuple[List[int], _Prediction]]
+    blocks: List[List[Tuple[List[int], _Prediction]]]
 
     def has_turns(self) -> bool:
         """Whether most samples of one half are predicted worse than those next to them, as where two channels are
         taken for one."""
-        turns = [_turns_of(*channel) for channel in self.channels]
+        turns = [_turns_of(*channel) for block in self.blocks for channel in block]
         return abs(sum(more for more, _ in turns)) > _TURNS * sum(pairs for _, pairs in turns)
 
+    def is_one_channel(self) -> bool:
+        """Whether each channel is predicted better if the sample before, of another one, is known, too, as where one
+        channel is taken for several. Of real ones the first of a frame has none before it of the same time."""
+        channels = len(self.blocks[0])
+        helps = [0.0] * channels
+        for block in self.blocks if channels > 1 else []:
+            for number, (samples, found) in enumerate(block):
+                before = block[number - 1][0]
+                others = before[2:] if number > 0 else before[1:]
+                helps[number] += _help_of(samples, others[: len(samples) - 2], found)
+        return channels > 1 and min(helps) > _HELP * len(self.blocks)
 
-def _looked(blocks: List[List[int]], bits: int, is_float: bool, channels: int) -> Optional[_Look]:
-    """How blocks look in this form; nothing if they aren't of it, unless it has turns."""
+    def doubted(self, width: int) -> "_Look":
+        """The same with more bits, where there are signs of another number of channels."""
+        is_doubtful = self.has_turns() or self.is_one_channel()
+        return self._replace(bits=self.bits + _DOUBT / width) if is_doubtful else self
+
+
+def _looked(blocks: List[List[int]], bits: int, is_float: bool, channels: int, lowest: float) -> Optional[_Look]:
+    """How blocks look in this form, whose lowest byte needs so many bits; nothing if they aren't of it."""
     highest = min(bits, _HIGHEST)
-    rest, varies, needed, count = 8 if is_float else bits - highest, [False] * channels, 0.0, 0
-    sounding = noisy = alone = 0
+    rest: float = 8 if is_float else bits - highest - 8 + lowest if bits > _HIGHEST else 0
+    varies, needed, count = [False] * channels, 0.0, 0
+    noisy = alone = 0
     is_signed = False
-    heard: List[Tuple[List[int], _Prediction]] = []
+    heard: List[List[Tuple[List[int], _Prediction]]] = []
     for block in blocks:
         if len(block) < _FEWEST * channels:
             continue
@@ -160,15 +222,15 @@ def _looked(blocks: List[List[int]], bits: int, is_float: bool, channels: int) -
         found = [_predicted(part) for part in parts]
         if all(one.is_constant for one in found):
             continue
-        heard += zip(parts, found)
+        heard.append(list(zip(parts, found)))
         for channel, (part, one) in enumerate(zip(parts, found)):
             alone += one.is_alone
             varies[channel] = varies[channel] or not one.is_constant
-            needed += (one.bits + rest) * len(part)
-        needed, count, sounding = needed + len(block), count + len(block), sounding + 1
+            needed += (min(one.bits, one.upper + lowest) if bits == _HIGHEST else one.bits + rest) * len(part)
+        needed, count = needed + len(block), count + len(block)
         noisy += not is_float and any(one.bits > highest - SPARE for one in found)
         is_signed = is_signed or min(block) < 0
-    if sounding == 0 or noisy * 8 > sounding or alone * 2 > sounding * channels:
+    if not heard or noisy * 8 > len(heard) or alone * 2 > len(heard) * channels:
         return None
     width = bits // 8
     oddness = (width > 1 and not is_signed) + (False in varies)
@@ -208,14 +270,21 @@ def _form_of(blocks: List[bytes], start: int, zeros: Optional[int]) -> Optional[
     None they begin at this byte, or else within a sample of it, and the file begins with so many zeros."""
     best = None
     for bits, is_float in _TRIED:
-        for shift in range(1 if zeros is None else bits // 8):
+        width = bits // 8
+        # Chunks begin at even places: so where all of a header is zeros, samples of an even width do, too.
+        step = 2 if zeros is not None and zeros >= USUAL_START and width % 2 == 0 else 1
+        for shift in range(0, 1 if zeros is None else width, step):
+            lowest = _lowest_bits(blocks, shift, width)
             decoded = [_decoded(block[shift:], Info(1, 1, bits, is_float)) for block in blocks]
             if is_float and not _are_usual(decoded):
                 continue
             samples = [_highest_of(block, bits, is_float) for block in decoded]
             for channels in _CHANNELS:
-                found = _looked(samples, bits, is_float, channels)
-                if found and (best is None or found[:2] < best[0]) and not found.has_turns():
+                found = _looked(samples, bits, is_float, channels, lowest)
+                if not found or (best is not None and found[:2] >= best[0]):
+                    continue
+                found = found.doubted(width)
+                if best is None or found[:2] < best[0]:
                     best = found[:2], Info(0, channels, bits, is_float, 0, shift)
     if best is None:
         return None
@@ -228,10 +297,30 @@ def _front_of(path: Path) -> bytes:
         return _read(file, FRONT_BYTES, 0)
 
 
+def _cues_in(front: bytes) -> List[range]:
+    """The places of cue chunks, whose points name the data."""
+    cues, place = [], -1
+    while (place := front.find(b"cue ", place + 1, len(front) - _HEAD + 4)) >= 0:
+        length, points = (int.from_bytes(front[at : at + 4], "little") for at in (place + 4, place + 8))
+        if length == 4 + 24 * points:
+            cues.append(range(place + 1, place + 8 + length + 1))
+    return cues
+
+
 def _start_in(front: bytes) -> int:
-    """Where the samples begin by what looks like the header of their data; 0 where nothing does."""
-    with address(front) as place:
-        return max(int(_guess_data(*place)), 0)
+    """Where the samples begin: after the first of what looks like the header of the data that counts some; else after
+    the last one, because a recorder that was killed counts none. 0 where nothing looks like one."""
+    cues, start, place = _cues_in(front), 0, _HEAD
+    while True:
+        with address(front[place - _HEAD :]) as given:
+            found = int(_guess_data(*given))
+        if found <= 0:
+            return start
+        place += found - _HEAD
+        if not any(place in cue for cue in cues):
+            start = place
+            if any(front[place - 4 : place]):
+                return start
 
 
 def start_of(path: Path, otherwise: int) -> int:

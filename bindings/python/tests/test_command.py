@@ -73,6 +73,49 @@ class Lost(Folder):
             self.assertRaisesRegex(ValueError, nothing, lambda: hound.guess(self.path, rate=8000))
         self.assertRaises(TypeError, lambda: hound.guess(self.path))
 
+    def test_a_guess_of_what_looks_like_another_form(self):
+        """Sound that was stored in more bits, or at twice its rate, or that has noise of a high pitch."""
+        some = random.Random(1)
+        noise = [some.uniform(-1, 1) for _ in range(20001)]
+
+        def filtered(weight):
+            level = 0.0
+            for one in noise:
+                yield (level := weight * level + one)
+
+        slow = [3000 * level for level in filtered(0.9)]
+        between = [(one + later) / 2 for one, later in zip(slow, slow[1:])]
+        tone = [3000 * math.sin(place / 20) for place in range(20000)]
+        for samples in (
+            [256 * round(25 * level) for level in filtered(0.8)],
+            [256 * round(20 * level) + some.choice((0, 0, 0, 1, -1)) for level in filtered(0.8)],
+            [sample for pair in zip(slow, between) for sample in pair][:20000],
+            [one + 20 * level for one, level in zip(tone, filtered(-0.6))],
+        ):
+            data = b"".join(struct.pack("<h", round(sample)) for sample in samples)
+            for content, start in (bytes(44) + data, 44), (data[7:], 45):
+                self.leave(content)
+                self.assertEqual(hound.guess(self.path, rate=8000), (8000, 1, 16, False, 0, start, 0))
+        # Where the lowest byte has little of the sound, samples that begin a byte later are quieter; but the header's
+        # place is even.
+        rough = [256 * round(20 * level) + round(10 * one) for level, one in zip(filtered(0.8), noise[::-1])]
+        self.leave(bytes(44) + b"".join(struct.pack("<h", sample) for sample in rough))
+        self.assertEqual(hound.guess(self.path, rate=8000), (8000, 1, 16, False, 0, 44, 0))
+
+    def test_a_cue_point_is_no_header_of_the_data(self):
+        for bits, channels in (16, 1), (24, 2):
+            data = b"".join(stored(sample / 2, bits, False) for sample in tones(channels, 9000, random.Random(2)))
+            for tag, chunk, counted in (
+                (b"cue ", 0, 1), (b"cue ", 7, 1), (b"cue ", 0, 0), (bytes(4), 0, 1), (bytes(4), 0, 0),
+            ):  # fmt: skip
+                points = b"".join(struct.pack("<II4sIII", number, 0, b"data", chunk, 0, 0) for number in (1, 2))
+                front = bytes(36) + tag + struct.pack("<II", 52, 2) + points + b"data"
+                some = data[:300] + b"data" * counted + data[300 + 4 * counted :]  # also in the sound
+                self.leave(front + struct.pack("<I", len(data) * counted) + some)
+                found = hound.guess(self.path, rate=8000)
+                self.assertEqual(found, (8000, channels, bits, False, 0, len(front) + 4, 0), (tag, chunk, counted))
+                self.assertEqual(lost.start_of(self.path, 44), len(front) + 4)
+
     def test_where_a_guess_finds_the_first_frame(self):
         for bits, is_float, head, front, start in (
             (16, False, 44, b"", 44), (24, False, 80, b"", 80), (32, True, 58, b"", 58), (32, True, 68, b"", 68),
