@@ -33,10 +33,11 @@ IN_PYTHON = f"""
 import array, sys
 import hound_bindings as hound
 path, data = sys.argv[1], memoryview(sys.stdin.buffer.read())
-sizes, done, turn = {SIZES}, 0, 0
+sizes, turn = {SIZES}, 0
 durable = len(sys.argv) > 2
 frames = len(data) // {FRAME}
 with hound.create(path, 48000, {CHANNELS}, {BITS}, split={PART}, durable=durable) as writer:
+    done = writer.tell()
     while done < frames:
         count = min(sizes[turn % len(sizes)], frames - done)
         piece = data[{FRAME} * done : {FRAME} * (done + count)]
@@ -49,6 +50,7 @@ with hound.create(path, 48000, {CHANNELS}, {BITS}, split={PART}, durable=durable
             print("written", done, flush=True)
         turn += 1
 """
+CONTINUED = IN_PYTHON.replace("hound.create(", "hound.resume(")
 IN_NODE = f"""
 import fs from "node:fs";
 import {{ record }} from "{TOP}/bindings/js/hound.js";
@@ -65,6 +67,16 @@ for (let done = 0, turn = 0; done < {FRAMES}; turn++) {{
 }}
 await recorder.close();
 """
+# With what the file of a recorder begins, by the specification, and what it may have left.
+HEAD = b"RIFF\0\0\0\0WAVEfmt " + struct.pack(
+    "<IHHIIHHHHI", 40, 0xFFFE, CHANNELS, 48000, 48000 * FRAME, FRAME, BITS, 22, BITS, (1 << CHANNELS) - 1
+)
+HEAD += b"\1\0\0\0\0\0\x10\0\x80\0\0\xaa\0\x38\x9b\x71data" + bytes(4)
+FOUND = {
+    "a kill within the header": HEAD[:40],
+    "a kill before a checkpoint": HEAD + DATA[: 700 * FRAME + 5],
+    "a kill at a seam": HEAD + DATA[: 1000 * FRAME],
+}
 # Wrong versions of record.c: a part, and what is in its place.
 AT_THE_SEAM = "        if (code == 0) code = said(hound_file_write(&file, block, (uint64_t)count * spec.channels));\n"
 WRONG = {
@@ -83,7 +95,9 @@ WRONG_DURABLE = {
         "    file->is_durable = 0;\n    code = hound_file_checkpoint(file);\n"
         "    if (code < 0) return hound_file_give_up(&next",
     ),
-    "files whose names aren't synced": ("hound_file_sync_folder(path) == 0;", "1;"),
+    "files whose names aren't synced": (
+        "if (file->is_durable && hound_file_sync_folder(path) < 0) file->fault = errno;", ""
+    ),
 }
 
 
@@ -293,6 +307,14 @@ class Disk:
     def make(self, path):
         self.states.setdefault(path, [b""])
 
+    def hold(self, path, contents):
+        """A file that is stored."""
+        self.states[path] = [contents]
+        self.named.add(path)
+
+    def cut(self, path, place):
+        self.states[path].append(self.states[path][-1][:place])
+
     def change(self, path, place, written):
         contents = bytearray(self.states[path][-1])
         contents[place : place + len(written)] = written
@@ -334,12 +356,16 @@ def calls_of(words, path, given, log):
                 yield name, strings[0].decode(), int(place[1]) if place else 0, b"".join(strings[1:2])
 
 
-def lost(recorders, words_for, what, is_wrong):
+def lost(recorders, words_for, what, is_wrong, before=None):
     """Builds what a loss of power may leave after each call of a durable recorder, and looks whether it counts what was
-    accepted, in order, once, and at least what a checkpoint has said."""
+    accepted, in order, once, and at least what a checkpoint has said. Before that there may be a file."""
     given, chance, disk, out, built, wrong = DATA[: FRAME * 2500], random.Random(1), Disk(), b"", 0, 0
     with tempfile.TemporaryDirectory(dir=recorders.folder) as folder:
         path = os.path.join(folder, "take.wav")
+        if before is not None:
+            with open(path, "wb") as file:
+                file.write(before)
+            disk.hold(path, before)
         for name, on, place, written in calls_of(words_for(path), path, given, os.path.join(recorders.folder, "log")):
             if on.endswith(".out"):
                 out += written
@@ -347,6 +373,8 @@ def lost(recorders, words_for, what, is_wrong):
                 disk.make(on)
             elif name == "pwrite64":
                 disk.change(on, place, written)
+            elif name == "ftruncate":
+                disk.cut(on, place)
             elif name == "fsync":
                 disk.sync(on)
             least = FRAME * frames_said(out)
@@ -370,6 +398,10 @@ def losses(recorders):
         if what in ("record.c", "the Python package"):
             durable = {"record.c": "--durable", "the Python package": "durable"}[what]
             lost(recorders, lambda path: [*words_for(path), durable], what, False)
+    words_for = recorders.by_program(sys.executable, "continued.py", CONTINUED)
+    for found, before in FOUND.items():
+        lost(recorders, lambda path: [*words_for(path), "durable"], f"resume of Python after {found}", False, before)
+        lost(recorders, words_for, f"resume that syncs nothing after {found}", True, before)
     lost(recorders, recorders.kinds["record.c"], "record.c that syncs nothing", True)
     for what, change in WRONG_DURABLE.items():
         words_for = recorders.by(recorders.compiled("record", *change))
