@@ -7,7 +7,7 @@ from typing import Dict, Tuple
 
 from ._library import Path
 
-__all__ = ["check_next", "check_no_part", "first_of", "part_name", "parts_at"]
+__all__ = ["check_folder", "check_next", "check_no_part", "first_of", "part_name", "parts_at"]
 
 # The number of a part that has one in its name, which has at least three digits.
 _NUMBERED = re.compile(r"(.*)-([0-9]{3}|[1-9][0-9]{3,})(\.[^.]*)?", re.DOTALL)
@@ -56,6 +56,11 @@ def check_next(path: Path, number: int = 2) -> None:
     check_no_part(part_name(path, number))
     with contextlib.suppress(FileNotFoundError):
         os.lstat(part_name(path, max(number, _MOST)))
+    check_folder(path)
+
+
+def check_folder(path: Path) -> None:
+    """An error where nothing can be made in the folder of a file."""
     folder = os.path.dirname(os.fsdecode(path)) or os.curdir
     os.stat(folder)  # An error where it isn't there.
     if not os.access(folder, os.W_OK | os.X_OK, effective_ids=os.access in os.supports_effective_ids):

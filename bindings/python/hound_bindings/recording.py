@@ -12,7 +12,7 @@ from typing import Any, Callable, List, Optional
 
 import hound_bindings as hound
 
-from . import conversion, lost, repairs
+from . import conversion, lost, parts, repairs
 from ._library import FIND_DAMAGE, described
 from .terminal import Line, Wrong, complain, note, sentence_of
 
@@ -226,12 +226,21 @@ def _check_options_of_record(options: argparse.Namespace) -> bool:
     return all(given)
 
 
+def _check_target(options: argparse.Namespace) -> None:
+    """An error where nothing can be recorded to the target, before anything is waited for."""
+    if not os.path.lexists(options.target):
+        parts.check_folder(options.target)
+    elif not options.append and not options.overwrite:
+        raise _exists(options.target)
+    if options.split and not options.append:
+        parts.check_next(options.target)
+
+
 def _form_to_record(options: argparse.Namespace, source: _Input) -> hound.Info:
     """What the samples of the input are: by the header of a WAV stream, by the options, or by the file that is
     continued."""
     is_given = _check_options_of_record(options)
-    if not options.append and not options.overwrite and os.path.lexists(options.target):
-        raise _exists(options.target)
+    _check_target(options)
     if sys.stdin.isatty():
         complain(f"samples are read from this terminal: to record a microphone pipe it in, as {_MICROPHONE}")
     form = None if options.raw else source.wav_form()

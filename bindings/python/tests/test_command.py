@@ -1114,6 +1114,14 @@ class Command(Folder):
         self.assertIn(b"hound-wav: a-003.wav: File exists", self.said)
         self.assertEqual((self.content("a.wav")[44:], self.content("a-002.wav")[44:]), (bytes(18), bytes(18)))
         self.assertEqual(self.content("a-003.wav"), b"mine")
+        os.unlink(os.path.join(self.folder, "a.wav"))
+        for words, said in (  # What can't be recorded is said before any input comes.
+            (["a.wav", "--split", "9"], b"a-002.wav: File exists: rename or remove it first"),
+            (["none/a.wav"], b"none: No such file or directory"),
+            (["a-002.wav"], b"a-002.wav exists: --append continues it, --overwrite empties it"),
+        ):
+            with self.begun("record", *words, *form) as running:
+                self.assertEqual((running.stderr.read(), running.wait(30)), (b"hound-wav: " + said + b"\n", 1))
         for words in ["--split", "0"], ["--split", "2G"], ["--split", "-1"], ["--split", ""]:
             self.run_command("record", "b.wav", *form, *words, status=2)
         for name in os.listdir(self.folder):
