@@ -1,0 +1,114 @@
+"""What erase.py changes beside deleting ghost text, and check_erased.py allows: in which file, which tokens, by which,
+how often they are there, and why. `(…)`, `[…]` and `{…}` are brackets with anything in them, and another `…` is
+anything without braces and semicolons. An `in_rt` entry could go if the .rt file were written otherwise, and proved.
+"""
+from typing import NamedTuple
+
+CRATES = ["number", "spec", "sample", "medium", "durable", "walk", "reader", "writer", "repair"]
+
+# Files that bindings/hound doesn't use: laws, which are ghosts, media in memory, and files, which it opens itself.
+LEFT_OUT = [
+    "number/laws.rt", "sample/laws.rt", "durable/laws.rt", "walk/laws.rt", "reader/laws.rt", "writer/laws.rt",
+    "repair/laws.rt", "medium/bytes.rt", "medium/cursor.rt", "medium/file.rt", "medium/journal.rt", "medium/tape.rt",
+    "durable/file.rt", "writer/file.rt", "writer/batch.rt", "writer/machine.rt", "repair/file.rt", "repair/bytes.rt",
+]
+
+
+class Allowed(NamedTuple):
+    file: str
+    times: int
+    old: str
+    new: str
+    why: str
+    in_rt: bool = False
+
+
+REPLACEMENTS = [
+    # What contracts need and Rust has no word for.
+    Allowed("*", 9, "#![tactic(…)]", "", "The prover's tactics."),
+    Allowed("*", 15, "#[tactic(…)]", "", "The prover's tactics."),
+    Allowed("*", 5, "impl … Model for … {…}", "", "What a value is in contracts."),
+    Allowed("*", 4, "use std::marker::Model;", "", "The trait of that."),
+    Allowed("reader/reader.rt", 1, "use std::marker::{Brand, Model, PhantomData};",
+            "use crate::rattle::Brand; use std::marker::PhantomData;", "A type whose ghosts vary, and that trait."),
+    Allowed("reader/item.rt", 1, "use std::marker::{Brand, PhantomData};",
+            "use crate::rattle::Brand; use std::marker::PhantomData;", "A type whose ghosts vary: here it has none."),
+    Allowed("*", 12, "#[derive(Drop)]", "", "Every type of Rust can be dropped."),
+    Allowed("*", 3, "Debug, Drop", "Debug", "Every type of Rust can be dropped."),
+    Allowed("*", 7, "+ Drop", "", "Every type of Rust can be dropped."),
+    Allowed("medium/medium.rt", 1, "trait Placed: Drop", "trait Placed", "Every type of Rust can be dropped."),
+    # What Rattle's library has and Rust's hasn't.
+    Allowed("*", 3, "use std::num::", "use crate::rattle::", "Conversions of floats."),
+    Allowed("spec/error.rt", 1, ", DeriveError)]", ")]", "bindings/hound has the texts."),
+    Allowed("spec/error.rt", 1, "use thiserror::Error as DeriveError;", "", "bindings/hound has the texts."),
+    Allowed("spec/error.rt", 8, "#[error(…)]", "", "bindings/hound has the texts."),
+    Allowed("spec/error.rt", 1, "use std::alloc::{AllocError, AllocFailed};", "", "Nothing here takes an allocator."),
+    Allowed("spec/error.rt", 1, "impl From<AllocError> for Error {…}", "", "Nothing here takes an allocator."),
+    Allowed("spec/error.rt", 1, "impl<T: Drop> From<AllocFailed<T>> for Error {…}", "",
+            "Nothing here takes an allocator."),
+    Allowed("spec/header.rt", 1, "impl WavSpec {…}", "", "It takes an allocator: bindings/hound has its own."),
+    Allowed("*", 2, "use std::alloc::Global;", "", "Nothing here takes an allocator."),
+    Allowed("reader/reader.rt", 1, "impl WavReader<io::BufReader<fs::File>> {…}", "", "bindings/hound opens files."),
+    Allowed("reader/reader.rt", 1, "use std::path::Path; use std::rt::Files; use std::{fs, io, result};",
+            "use std::{io, result};", "bindings/hound opens files."),
+    Allowed("writer/resuming.rt", 1, "fmt<W: fmt::Write>(&self, f: &mut fmt::Formatter<W>)",
+            "fmt(&self, f: &mut fmt::Formatter<'_>)", "A formatter of Rust has no type of where it writes."),
+    # A value that is dropped is lent in Rust, and an io::Error isn't copied: one is moved out of where it was saved.
+    Allowed("writer/write.rt", 1, "impl<W: Medium> Drop for WavWriter<W> {…}", "", "bindings/hound has its own."),
+    Allowed("writer/write.rt", 2, "(no_sample, &self.fault)", "(no_sample, &mut self.fault)",
+            "An io::Error isn't copied."),
+    Allowed("sample/item.rt", 1, "fault: &io::Error", "fault: &mut io::Error", "An io::Error isn't copied."),
+    Allowed("sample/item.rt", 1, "Error::IoError(*fault)",
+            "Error::IoError(std::mem::replace(fault, io::ErrorKind::Other.into()))", "An io::Error isn't copied."),
+    Allowed("reader/item.rt", 1, "fault: &io::Error", "fault: &mut io::Error", "An io::Error isn't copied."),
+    Allowed("reader/item.rt", 1, "_ => Err(self.reader.fault)", "_ => Err(io::ErrorKind::Other.into())",
+            "An io::Error isn't copied: callers get the one that stays saved, whatever this one is."),
+    Allowed("reader/reader.rt", 1, "last_fault(&self) -> &io::Error { &self.reader.fault }",
+            "last_fault(&mut self) -> &mut io::Error { &mut self.reader.fault }", "An io::Error isn't copied."),
+    Allowed("reader/reader.rt", 1, "result_of(answer, &self.reader.fault)", "result_of(answer, &mut self.reader.fault)",
+            "An io::Error isn't copied."),
+    Allowed("reader/blocks.rt", 1, "result_of(answer, &self.reader.fault)", "result_of(answer, &mut self.reader.fault)",
+            "An io::Error isn't copied."),
+    Allowed("reader/blocks.rt", 1, "&early_end()", "&mut early_end()", "An io::Error isn't copied."),
+    # What bindings/hound, which is in the same crate, calls.
+    Allowed("writer/output.rt", 1,
+            "spec_ex: WavSpecEx, writer: W, data_start: u64, data_bytes_written: u32, may_have_moved",
+            """spec_ex: WavSpecEx,
+    // The medium that the file goes to.
+    pub(crate) writer: W,
+    // The place of the first data byte.
+    data_start: u64,
+    // How many bytes of the accepted samples are written.
+    data_bytes_written: u32,
+    // Whether the medium may be elsewhere than after these.
+    may_have_moved""", "A panic of the medium goes on after the call."),
+    Allowed("writer/lib.rt", 1, "mod append;", "pub(crate) mod append;", "It is called by bindings/hound."),
+    Allowed("sample/lib.rt", 1, "mod scale;", "pub(crate) mod scale;", "It is called by bindings/hound."),
+    Allowed("repair/lib.rt", 1, "mod mend;", "pub(crate) mod mend;", "It is called by bindings/hound."),
+    Allowed("repair/mend.rt", 1, "fn perform_all", "pub(crate) fn perform_all", "It is called by bindings/hound."),
+    Allowed("spec/spec.rt", 1, "pub fn is_writable", "pub(crate) fn is_writable", "hound has no such method."),
+    # What newer versions of Rust than 1.63 have.
+    Allowed("sample/scale.rt", 1, "number.round_ties_even()", "crate::rattle::round_ties_even(number)",
+            "f64::round_ties_even is of Rust 1.77."),
+    Allowed("spec/spec.rt", 1, "spec.bits_per_sample.div_ceil(8)", "crate::rattle::div_ceil(spec.bits_per_sample, 8)",
+            "u16::div_ceil is of Rust 1.73.", in_rt=True),
+    Allowed("durable/durable.rt", 1, "self.place.checked_add_signed(by)",
+            "crate::rattle::checked_add_signed(self.place, by)", "u64::checked_add_signed is of Rust 1.66.",
+            in_rt=True),
+    Allowed("number/lib.rt", 1, "high.cast_signed() as i32", "high as i8 as i32", "u8::cast_signed is of Rust 1.87.",
+            in_rt=True),
+    Allowed("sample/integer.rt", 1, "let Ok(narrow) = i8::try_from(x) else { return Err(Error::TooWide); };",
+            "let narrow = match i8::try_from(x) { Ok(narrow) => narrow, Err(_) => return Err(Error::TooWide) };",
+            "let .. else is of Rust 1.65.", in_rt=True),
+    Allowed("sample/integer.rt", 1, "let Ok(narrow) = i16::try_from(x) else { return Err(Error::TooWide); };",
+            "let narrow = match i16::try_from(x) { Ok(narrow) => narrow, Err(_) => return Err(Error::TooWide) };",
+            "let .. else is of Rust 1.65.", in_rt=True),
+    Allowed("writer/write.rt", 1,
+            "let Err(no_sample) = self.output.accept_sample(sample, &mut self.fault) else { return Ok(()); };",
+            "let no_sample = match self.output.accept_sample(sample, &mut self.fault) { Ok(()) => return Ok(()),"
+            " Err(no_sample) => no_sample };", "let .. else is of Rust 1.65.", in_rt=True),
+    Allowed("writer/write.rt", 1,
+            "let Err(no_sample) = self.output.accept_samples(samples, &mut self.fault) else { return Ok(()); };",
+            "let no_sample = match self.output.accept_samples(samples, &mut self.fault) { Ok(()) => return Ok(()),"
+            " Err(no_sample) => no_sample };", "let .. else is of Rust 1.65.", in_rt=True),
+]
