@@ -127,7 +127,7 @@ def erased(crate: str, path: Path, counts: list) -> str:
                 text = replaced(text, line, "")[0]
     text = PATH.sub(lambda path: f"crate::proved::{path[2] or crate}::" if path["path"] else path[0], text)
     # Examples in pages are programs in Rattle.
-    text = re.sub(r"^( *//[/!]) ```$(?=\n *//[/!] .)", r"\1 ```ignore", text, flags=re.M)
+    text = re.sub(r"^( *//[/!]) ```$(?=\n *//[/!] .)", r"\1 ```text", text, flags=re.M)
     return FIRST_LINE.format(crate) + text
 
 

@@ -10,7 +10,8 @@ CRATES = ["number", "spec", "sample", "medium", "durable", "walk", "reader", "wr
 LEFT_OUT = [
     "number/laws.rt", "sample/laws.rt", "durable/laws.rt", "walk/laws.rt", "reader/laws.rt", "writer/laws.rt",
     "repair/laws.rt", "medium/bytes.rt", "medium/cursor.rt", "medium/file.rt", "medium/journal.rt", "medium/tape.rt",
-    "durable/file.rt", "writer/file.rt", "writer/batch.rt", "writer/machine.rt", "repair/file.rt", "repair/bytes.rt",
+    "sample/amplitude.rt", "durable/file.rt", "writer/file.rt", "writer/batch.rt", "writer/machine.rt",
+    "repair/file.rt", "repair/bytes.rt",
 ]
 
 
@@ -26,7 +27,7 @@ class Allowed(NamedTuple):
 REPLACEMENTS = [
     # What contracts need and Rust has no word for.
     Allowed("*", 9, "#![tactic(…)]", "", "The prover's tactics."),
-    Allowed("*", 15, "#[tactic(…)]", "", "The prover's tactics."),
+    Allowed("*", 14, "#[tactic(…)]", "", "The prover's tactics."),
     Allowed("*", 5, "impl … Model for … {…}", "", "What a value is in contracts."),
     Allowed("*", 4, "use std::marker::Model;", "", "The trait of that."),
     Allowed("reader/reader.rt", 1, "use std::marker::{Brand, Model, PhantomData};",
@@ -38,7 +39,15 @@ REPLACEMENTS = [
     Allowed("*", 7, "+ Drop", "", "Every type of Rust can be dropped."),
     Allowed("medium/medium.rt", 1, "trait Placed: Drop", "trait Placed", "Every type of Rust can be dropped."),
     # What Rattle's library has and Rust's hasn't.
-    Allowed("*", 3, "use std::num::", "use crate::rattle::", "Conversions of floats."),
+    Allowed("sample/scale.rt", 1, "use std::num::", "use crate::rattle::", "Conversions of floats."),
+    # A float of Rattle has one NaN, so that a sample is the number of its bits. In Rust it is the float itself.
+    Allowed("sample/float.rt", 1, "#[repr(C)] #[derive(Clone, Copy, Debug, PartialEq, Eq)] pub struct FloatBits(pub u32);",
+            "pub type FloatBits = f32;", "A float of Rust has each pattern."),
+    Allowed("sample/float.rt", 1, "FloatBits(u32_at(container, 0))", "f32::from_bits(u32_at(container, 0))", "As above."),
+    Allowed("sample/float.rt", 1, "le_u32(self.0)", "le_u32(self.to_bits())", "As above."),
+    Allowed("sample/float.rt", 1, "use std::num::{f32_from_bits_with_nan, f32_to_bits_with_nan};", "", "As above."),
+    Allowed("sample/float.rt", 1, "impl From<f32> for FloatBits {…}", "", "As above."),
+    Allowed("sample/float.rt", 1, "impl FloatBits {…}", "", "As above."),
     Allowed("spec/error.rt", 1, ", DeriveError)]", ")]", "bindings/hound has the texts."),
     Allowed("spec/error.rt", 1, "use thiserror::Error as DeriveError;", "", "bindings/hound has the texts."),
     Allowed("spec/error.rt", 8, "#[error(…)]", "", "bindings/hound has the texts."),
@@ -111,4 +120,21 @@ REPLACEMENTS = [
             "let Err(no_sample) = self.output.accept_samples(samples, &mut self.fault) else { return Ok(()); };",
             "let no_sample = match self.output.accept_samples(samples, &mut self.fault) { Ok(()) => return Ok(()),"
             " Err(no_sample) => no_sample };", "let .. else is of Rust 1.65.", in_rt=True),
+    # What is slower with the checks of indices that Rust makes, and the kit's compiler doesn't.
+    Allowed("reader/item.rt", 1, "#[inline] pub(crate) fn read_or_save_error",
+            "#[inline(always)] pub(crate) fn read_or_save_error", "It is a part of the loop over samples.", in_rt=True),
+    Allowed("writer/block.rt", 1, "let [a, b, c, d] = container; let at = self.length; self.bytes[at] = a;"
+            " self.bytes[at + 1] = b; self.bytes[at + 2] = c; self.bytes[at + 3] = d;",
+            "let at = self.length; self.bytes[at..at + 4].copy_from_slice(&container);", "One check instead of four.",
+            in_rt=True),
+    Allowed("sample/slices.rt", 1, "let mut end = 0; for sample in samples {",
+            "for (bytes, sample) in bytes.chunks_exact_mut((width as usize).max(1)).zip(samples) {",
+            "No check, so that LLVM makes vectors of it.", in_rt=True),
+    Allowed("sample/slices.rt", 1, "store_container(bytes, end, container, width as usize); end += width as usize;",
+            "store_container(bytes, 0, container, width as usize);", "The rest of that.", in_rt=True),
+    Allowed("sample/decode.rt", 1, "for i in 0..samples.len() {"
+            " samples[i] = S::decode(&from[i * size..(i + 1) * size], fmt, width, bits);",
+            "for (sample, container) in samples.iter_mut().zip(from.chunks_exact(size.max(1))) {"
+            " *sample = S::decode(container, fmt, width, bits);", "No check, so that LLVM makes vectors of it.",
+            in_rt=True),
 ]

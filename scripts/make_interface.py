@@ -287,8 +287,7 @@ USES = [
 VERSIONS = [
     ("bindings/rust/Cargo.toml", '\nversion = "{}"\n'),
     ("bindings/hound/Cargo.toml", '\nversion = "3.5.1+rattle.{}"\n'),
-    ("bindings/hound/Cargo.toml", 'hound_bindings = { path = "../rust", version = "{}" }\n'),
-    ("bindings/hound/src/lib.rs", "names version 3.5.1+rattle.{}.\n"),
+    ("bindings/hound/README.md", "names version 3.5.1+rattle.{}.\n"),
     ("bindings/python/pyproject.toml", '\nversion = "{}"\n'),
     ("bindings/python/backend.py", 'NAME, VERSION = "hound_bindings", "{}"\n'),
     ("bindings/python/hound_bindings/_library.py", '\n__version__ = "{}"\n'),

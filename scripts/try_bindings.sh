@@ -239,8 +239,18 @@ by_cmake() {
     done
 }
 python_by_source() { HOUND_C_LIBRARY=$work/source/lib/libhound_c.so python_tests files floats; }
-cargo_by_source() { HOUND_C_SOURCE=1 cargo test -q --tests --offline --manifest-path bindings/hound/Cargo.toml \
+cargo_by_source() { HOUND_C_SOURCE=1 cargo test -q --tests --offline --manifest-path bindings/rust/Cargo.toml \
     --target-dir "$work/target.source"; }
+# The modules of the Cargo package hound are the proved text, and a copy with another word isn't.
+erased() {
+    scripts/erase.py --check && scripts/check_erased.py && cp -r bindings/hound/src/proved "$work/proved" \
+        && sed -i '0,/may_have_moved = true/s//may_have_moved = false/' "$work/proved/writer/output.rs" \
+        && ! scripts/check_erased.py "$work/proved"
+}
+cargo_packaged() { # and documented, without a warning
+    local words="--offline --manifest-path bindings/hound/Cargo.toml --target-dir $work/target.packaged"
+    cargo package -q $words && RUSTDOCFLAGS=-Dwarnings cargo doc -q --no-deps $words
+}
 page_of_c() {
     page c > "$work/page.c" && "$cc" $strict "$work/page.c" "$library" -o "$work/page" \
         && (cd "$work" && $run ./page) || return 1
@@ -317,7 +327,7 @@ user_of_hound() { # a program written for hound
     mkdir -p src/bin && (cd "$top" && page rust README.md) > src/bin/readme.rs \
         && [ "$($offline cargo run -q --bin readme)" = "[2, -3, 5, -7]" ] && cmp take.wav "$work/four.wav"
 }
-vendored() { # the same program, with the sources of both crates alone
+vendored() { # the same program, with the sources of the crate alone
     export CARGO_HOME=$work/cargo
     cd "$work/tick" && rm tick.wav && mkdir .cargo && cargo vendor vendor > .cargo/config.toml \
         && $offline cargo run -q --target-dir "$work/target.vendored" --bin tick tick.wav 120 4 \
@@ -452,8 +462,11 @@ fi
 if has cargo "the Cargo crate"; then
     check "the tests of the Cargo crate" cargo_tests rust
     check "the tests of the Cargo package hound" cargo_tests hound
+    check "Cargo packages and documents it" cargo_packaged
+    has rustfmt "the modules of the Cargo package hound" \
+        && check "the modules of the Cargo package hound are the proved text without its contracts" erased
     check "Cargo rejects a library of another version" other_version
-    check "the same over hound_c.c, which its build compiles" cargo_by_source
+    check "the tests of the Cargo crate over hound_c.c, which its build compiles" cargo_by_source
     if has wine "the Cargo crates on Windows" && has x86_64-w64-mingw32-gcc "the Cargo crates on Windows" \
         && cargo=$(cargo_of_windows); then
         check "the tests of both Cargo crates on Windows" cargo_on_windows "$cargo"

@@ -18,9 +18,13 @@
 //! # result?;
 //! # Ok::<(), hound::Error>(())
 //! ```
-pub use crate::proved::Scaled;
-use crate::{Result, Sample, WavReader, WavWriter};
+use crate::proved::sample::int_to_float;
+use crate::proved::sample::scale::{double_to_int, int_to_double};
+use crate::{Error, Result, Sample, SampleFormat, WavReader, WavWriter};
 use std::io::{Read, Seek, Write};
+
+// How many samples are read at once before they become floats.
+const BLOCK: usize = 1024;
 
 /// Reads blocks.
 pub trait ReadSamples: sealed::Sealed {
@@ -35,12 +39,10 @@ pub trait ReadSamples: sealed::Sealed {
 
 /// Writes blocks.
 pub trait WriteSamples: sealed::Sealed {
-    /// Writes samples, all of them or none. Up to 4096 are buffered, as single ones are. After an error the next call
-    /// that writes to the file makes a checkpoint first, of the whole frames that were written before.
+    /// Writes samples, all of them or none. Up to 4096 bytes are buffered, as those of single samples are.
     ///
-    /// Where a write fails within the block, a file of `create`, `append` or a durable form of these is cut off after
-    /// the samples before it. Over another writer a part of the block may stay there; readers don't count it, but
-    /// [`repair_file`](crate::repair_file) would take it for samples.
+    /// Where a write fails within the block, a part of it may stay in the file after the samples before it. Readers
+    /// don't count it, but [`repair_file`](crate::repair_file) would take it for samples.
     fn write_samples<S: Sample + Copy>(&mut self, samples: &[S]) -> Result<()>;
 
     /// The same of floats, `f32` or `f64`, to any file, and returns how many were clipped: for integers each is
@@ -51,26 +53,92 @@ pub trait WriteSamples: sealed::Sealed {
 
 impl<R: Read> ReadSamples for WavReader<R> {
     fn read_samples<S: Sample>(&mut self, samples: &mut [S]) -> (usize, Result<()>) {
-        self.read_into(samples)
+        S::__hound_read_all(&mut self.proved, samples)
     }
 
     fn read_scaled<F: Scaled>(&mut self, samples: &mut [F]) -> (usize, Result<()>) {
-        self.read_scaled_into(samples)
+        let bits = self.spec().bits_per_sample;
+        match self.spec().sample_format {
+            SampleFormat::Int => read_as(self, samples, |sample| F::of_integer(sample, bits)),
+            SampleFormat::Float => read_as(self, samples, F::of_float),
+        }
     }
+}
+
+fn read_as<R: Read, S: Sample + Copy + Default, F>(
+    reader: &mut WavReader<R>,
+    samples: &mut [F],
+    convert: impl Fn(S) -> F,
+) -> (usize, Result<()>) {
+    let (mut block, mut done) = ([S::default(); BLOCK], 0);
+    for samples in samples.chunks_mut(BLOCK) {
+        let (count, result) = reader.read_samples(&mut block[..samples.len()]);
+        samples.iter_mut().zip(&block[..count]).for_each(|(float, sample)| *float = convert(*sample));
+        done += count;
+        if count < samples.len() {
+            return (done, result);
+        }
+    }
+    (done, Ok(()))
 }
 
 impl<W: Write + Seek> WriteSamples for WavWriter<W> {
     fn write_samples<S: Sample + Copy>(&mut self, samples: &[S]) -> Result<()> {
-        self.core.write_samples(samples)
+        S::__hound_write_all(samples, &mut self.proved)
     }
 
     fn write_scaled<F: Scaled>(&mut self, samples: &[F]) -> Result<u64> {
-        self.core.write_scaled(samples)
+        let (bits, mut clipped) = (self.spec().bits_per_sample, 0);
+        match self.spec().sample_format {
+            SampleFormat::Int => {
+                let integers = samples.iter().map(|sample| double_to_int(sample.number(), bits, &mut clipped));
+                let integers: Vec<i32> = integers.collect();
+                self.write_samples(&integers)?;
+            }
+            SampleFormat::Float => {
+                let floats: Option<Vec<f32>> = samples.iter().map(|sample| sample.to_float()).collect();
+                self.write_samples(&floats.ok_or(Error::TooWide)?)?;
+            }
+        }
+        Ok(clipped)
     }
 }
+
+/// The types of floats that are scaled: `f32`, and `f64`, which holds integers of 32 bits, too.
+pub trait Scaled: Copy + Default + sealed::Float {}
+
+macro_rules! scaled {
+    ($float:ident, $of_integer:ident, $to_float:expr) => {
+        impl Scaled for $float {}
+        impl sealed::Float for $float {
+            fn of_integer(sample: i32, bits: u16) -> $float {
+                $of_integer(sample, bits)
+            }
+            fn of_float(float: f32) -> $float {
+                float.into()
+            }
+            fn number(self) -> f64 {
+                self.into()
+            }
+            fn to_float(self) -> Option<f32> {
+                $to_float(self)
+            }
+        }
+    };
+}
+scaled!(f32, int_to_float, Some);
+scaled!(f64, int_to_double, |number: f64| Some(number as f32).filter(|float| float.is_finite() || !number.is_finite()));
 
 mod sealed {
     pub trait Sealed {}
     impl<R> Sealed for crate::WavReader<R> {}
     impl<W: std::io::Write + std::io::Seek> Sealed for crate::WavWriter<W> {}
+
+    pub trait Float {
+        fn of_integer(sample: i32, bits: u16) -> Self;
+        fn of_float(float: f32) -> Self;
+        fn number(self) -> f64;
+        // None where a finite number would be infinite.
+        fn to_float(self) -> Option<f32>;
+    }
 }

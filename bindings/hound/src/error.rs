@@ -1,11 +1,11 @@
-use crate::proved;
+use crate::proved::spec;
+use crate::proved::writer::RecorderError;
 use std::{error, fmt, io, result};
 
 /// Why a call failed.
 #[derive(Debug)]
 pub enum Error {
-    /// The reader or the writer failed, or ended early, or the file would be longer than its sizes,
-    /// of 32 bits, can count.
+    /// The reader or the writer failed, or ended early, or the file would be longer than 32 bits can count.
     IoError(io::Error),
     /// The bytes are no WAV file, for this reason.
     FormatError(&'static str),
@@ -15,8 +15,7 @@ pub enum Error {
     UnfinishedSample,
     /// The format isn't supported, or floats are written to a file of integers of fewer than 32 bits.
     Unsupported,
-    /// Samples that are floats are read as a type of integers, or vice versa. No writer reports it: see
-    /// [`write_sample`](crate::WavWriter::write_sample).
+    /// Samples that are floats are read as a type of integers, or vice versa. No writer reports it.
     InvalidSampleFormat,
 }
 
@@ -39,10 +38,9 @@ impl fmt::Display for Error {
 // As hound's, whose `source` is none.
 impl error::Error for Error {
     fn cause(&self) -> Option<&dyn error::Error> {
-        if let Error::IoError(error) = self {
-            Some(error)
-        } else {
-            None
+        match self {
+            Error::IoError(error) => Some(error),
+            _ => None,
         }
     }
 }
@@ -53,33 +51,43 @@ impl From<io::Error> for Error {
     }
 }
 
-impl From<proved::Error> for Error {
-    fn from(error: proved::Error) -> Error {
-        use proved::Error::*;
+impl From<spec::Error> for Error {
+    #[cold]
+    fn from(error: spec::Error) -> Error {
         match error {
-            Ended => early_end().into(),
-            Truncated => io::Error::new(io::ErrorKind::UnexpectedEof, error).into(),
-            NeedsMend | NeedsOverwrite => io::Error::new(io::ErrorKind::InvalidData, error).into(),
-            Unsupported | NotWritable => Error::Unsupported,
-            OtherFormat => Error::InvalidSampleFormat,
-            TooWide => Error::TooWide,
-            UnfinishedFrame => Error::UnfinishedSample,
-            TooLong | NoRoom | NeedsCheckpoint | SyncFailed | NotPerformed => {
-                io::Error::new(io::ErrorKind::Other, error).into()
-            }
-            // Its text for these, without what hound_bindings says beside it.
-            BitsNot8Or16 => Error::FormatError("bits per sample is not 8 or 16"),
-            DataLength => Error::FormatError("data chunk length is not a multiple of sample size"),
-            FrameLength => Error::FormatError("invalid data chunk length"),
-            NoRiffTag | NoWaveTag | NoDataChunk | NoFmtChunk | FmtSize | UnexpectedFmtSize | ZeroChannels
-            | BitsExceedWidth | Inconsistent | BitsNotWholeBytes | ZeroBits | ExSize | BitsNot32 | ExtensibleSize => {
-                Error::FormatError(error.text())
-            }
+            spec::Error::IoError(error) => Error::IoError(error),
+            spec::Error::FormatError(reason) => Error::FormatError(reason),
+            spec::Error::TooWide => Error::TooWide,
+            spec::Error::UnfinishedSample => Error::UnfinishedSample,
+            spec::Error::Unsupported => Error::Unsupported,
+            spec::Error::InvalidSampleFormat => Error::InvalidSampleFormat,
+            spec::Error::TooLong => too_long(),
+            spec::Error::OutOfMemory => io::Error::from(io::ErrorKind::OutOfMemory).into(),
         }
     }
 }
 
-// What hound reports where a reader ends too early.
-pub(crate) fn early_end() -> io::Error {
-    io::Error::new(io::ErrorKind::Other, "Failed to read enough bytes.")
+impl From<RecorderError> for Error {
+    fn from(error: RecorderError) -> Error {
+        let (kind, text) = match error {
+            RecorderError::NotWritable => return Error::Unsupported,
+            RecorderError::UnfinishedFrame => return Error::UnfinishedSample,
+            RecorderError::Truncated => (
+                io::ErrorKind::UnexpectedEof,
+                "the header counts a sample that the file doesn't hold: it can be repaired",
+            ),
+            RecorderError::NeedsMend => {
+                (io::ErrorKind::InvalidData, "the recording was cut off, and has to be repaired first")
+            }
+            RecorderError::NeedsOverwrite => {
+                (io::ErrorKind::InvalidData, "chunks or a tag follow the data, and would be overwritten")
+            }
+            _ => return too_long(),
+        };
+        io::Error::new(kind, text).into()
+    }
+}
+
+fn too_long() -> Error {
+    io::Error::new(io::ErrorKind::Other, "the sizes of the file would not fit in 32 bits").into()
 }

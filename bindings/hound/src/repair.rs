@@ -1,8 +1,11 @@
-pub use crate::proved::State as RepairState;
-use crate::proved::{Mode, Repairer};
-use crate::target::open_locked;
+use crate::lock::open_locked;
+use crate::medium::{Input, Output};
+use crate::proved::repair::mend::{look_by_parts, perform_all};
+pub use crate::proved::repair::RepairState;
+use crate::proved::repair::{Damage, Task};
+use crate::proved::writer::FoundFile;
 use crate::{Error, Result, WavSpecEx};
-use std::io::{self, Seek, SeekFrom};
+use std::io::{self, Read, Seek};
 use std::{fs, path};
 
 /// What a file holds (own).
@@ -34,38 +37,56 @@ pub struct Repair {
 /// are there, and a second call finishes the repair: until the data length is right, the file is found to be cut off.
 /// Only a pad byte may then be missing, and the second call reports that all frames are counted.
 pub fn repair_file<P: AsRef<path::Path>>(filename: P) -> Result<Repair> {
-    repair_by(Mode::Repair, filename.as_ref())
+    repair_by(Task::Repair, filename.as_ref())
 }
 
 /// The same, but all that follows the header of the data is taken for samples, also what looks like chunks or a
 /// tag (own): for a file that [`repair_file`] reports as `HasChunksAfterData`, and whose header counts too few. The
 /// chunks are samples then, and sound at the end as a click, so copy the file first.
 pub fn repair_file_to_end<P: AsRef<path::Path>>(filename: P) -> Result<Repair> {
-    repair_by(Mode::RepairToEnd, filename.as_ref())
+    repair_by(Task::RepairToEnd, filename.as_ref())
 }
 
-fn repair_by(mode: Mode, filename: &path::Path) -> Result<Repair> {
+fn repair_by(task: Task, filename: &path::Path) -> Result<Repair> {
     let denied = match open_locked(fs::OpenOptions::new().read(true).write(true), filename) {
-        Ok(mut file) => return repair_in(mode, &mut file),
+        Ok(file) => return repair_in(task, &file),
         Err(error) if error.kind() == io::ErrorKind::PermissionDenied => error,
         Err(error) => return Err(error.into()),
     };
     // A file that stays as it is needs no more than to be read. Of another one the first write fails.
-    let mut file = open_locked(fs::OpenOptions::new().read(true), filename)?;
-    repair_in(mode, &mut file).map_err(|error| match error {
+    let file = open_locked(fs::OpenOptions::new().read(true), filename)?;
+    repair_in(task, &file).map_err(|error| match error {
         Error::IoError(_) => Error::IoError(denied),
         error => error,
     })
 }
 
-fn repair_in(mode: Mode, file: &mut fs::File) -> Result<Repair> {
-    let length = file.seek(SeekFrom::End(0))?;
-    let found = Repairer::new(length, mode).run(file)??;
+fn repair_in(task: Task, mut file: &fs::File) -> Result<Repair> {
+    file.stream_position()?; // A pipe has no places.
+    let damage = look_by_parts(&mut Input(file), task)?;
+    perform_all(&mut Output::of_file(file, Some(file.try_clone()?)), task, damage)?;
+    let (head, found) = (damage.head, damage.repair());
+    let frame = u32::from(head.spec_ex.spec.channels) * u32::from(head.spec_ex.bytes_per_sample);
     Ok(Repair {
-        spec_ex: found.spec.into(),
+        spec_ex: found.spec_ex,
         frames: found.frames,
         left_over: found.left_over,
         state: found.state,
-        counted: found.counted,
+        counted: head.data_length / frame,
+    })
+}
+
+/// A file that is to be appended to, as a look finds it.
+pub(crate) fn find<R: Read + Seek>(mut file: R) -> Result<FoundFile> {
+    let length = file.seek(io::SeekFrom::End(0))?;
+    let damage: Damage = look_by_parts(&mut Input(file), Task::FindDamage)?;
+    let (head, found) = (damage.head, damage.repair());
+    Ok(FoundFile {
+        spec_ex: found.spec_ex,
+        data_start: head.data_start,
+        data_length: head.data_length,
+        length,
+        frames: found.frames,
+        state: found.state,
     })
 }

@@ -1,8 +1,14 @@
-use crate::proved::{self, Container};
-use crate::source::read_rest;
-use crate::spec::{containers, unpadded};
-use crate::{Error, Result, SampleFormat};
-use std::{io, mem};
+use crate::medium::{Input, Target};
+use crate::proved::reader::WavReader;
+use crate::proved::sample::{error_of_sample, Sample as Proved, SampleError};
+use crate::proved::spec;
+use crate::proved::writer::WavWriter;
+use crate::{Error, Result, SampleFormat, WavSpecEx};
+use std::io::{self, Read, Seek, Write};
+
+/// The proved reader and writer, over those of the user's.
+pub type Reader<R> = WavReader<Input<R>>;
+pub type Writer<W> = WavWriter<Target<W>>;
 
 /// A type of samples: `i8`, `i16`, `i32`, `f32`, or one of your own.
 pub trait Sample: Sized {
@@ -18,123 +24,85 @@ pub trait Sample: Sized {
     /// The lowest 16 bits of an integer.
     fn as_i16(self) -> i16;
 
-    // How blocks of samples are decoded and encoded. A type of your own reads and writes one by one. No trait of yours
-    // has this name, which would be ambiguous then.
+    // What readers and writers call. A type of your own writes its container into memory first, and reads its item from
+    // the reader itself. No trait of yours has these names, which would be ambiguous then.
+
     #[doc(hidden)]
-    const __HOUND_CODING: Option<Coding<Self>> = None;
-}
+    #[inline]
+    fn __hound_write<W: Write + Seek>(self, writer: &mut Writer<W>) -> Result<()> {
+        put(writer, Container::of(self, writer.spec_ex())?)
+    }
 
-/// How a type is decoded and encoded. In blocks samples are integers of 32 bits: a float is the integer that
-/// has its container.
-pub struct Coding<S> {
-    pub format: SampleFormat,
-    pub from: fn(i32) -> S,
-    pub to: fn(S) -> i32,
-    pub decode: Decode<S>,
-    pub encode: Encode<S>,
-}
-pub(crate) type Decode<S> = fn(&proved::Spec, &[u8], &mut [S]) -> proved::Result<usize>;
-pub(crate) type Encode<S> = fn(&proved::Spec, &[S], &mut [u8]) -> proved::Result<usize>;
+    #[doc(hidden)]
+    fn __hound_write_all<W: Write + Seek>(samples: &[Self], writer: &mut Writer<W>) -> Result<()>
+    where
+        Self: Copy,
+    {
+        let containers = samples.iter().map(|sample| Container::of(*sample, writer.spec_ex()));
+        let containers = containers.collect::<Result<Vec<_>>>()?;
+        put_all(writer, &containers)
+    }
 
-/// Reads containers one by one.
-pub(crate) trait ReadContainer {
-    fn read_container<const WIDTH: usize>(&mut self) -> io::Result<[u8; WIDTH]>;
-}
+    #[doc(hidden)]
+    #[inline]
+    fn __hound_read<R: Read>(reader: &mut Reader<R>, spec_ex: WavSpecEx) -> Option<Result<Self>> {
+        if reader.samples_left() == 0 {
+            return None;
+        }
+        reader.samples_read += 1;
+        let mut counting = Counting { reader: &mut reader.reader.reader, given: &mut reader.bytes_read };
+        let WavSpecEx { spec, bytes_per_sample } = spec_ex;
+        Some(Self::read(&mut counting, spec.sample_format, bytes_per_sample, spec.bits_per_sample))
+    }
 
-/// Reads a container, if a type of this format and size takes it.
-#[inline(always)]
-pub(crate) fn read_value<R: ReadContainer>(
-    reader: &mut R,
-    format: SampleFormat,
-    container: Option<Container>,
-    size: usize,
-) -> Option<io::Result<i32>> {
-    use proved::Container::{Float, Int16, Int24, Int24In4, Int32, Int8};
-    let is_int = format == SampleFormat::Int;
-    Some(match container? {
-        Float if !is_int => reader.read_container().map(i32::from_le_bytes),
-        Int16 if is_int && size >= 2 => {
-            reader.read_container().map(|bytes| proved::value_16(u16::from_le_bytes(bytes).into()))
+    #[doc(hidden)]
+    fn __hound_read_all<R: Read>(reader: &mut Reader<R>, samples: &mut [Self]) -> (usize, Result<()>) {
+        let spec_ex = reader.spec_ex();
+        for (count, slot) in samples.iter_mut().enumerate() {
+            match Self::__hound_read(reader, spec_ex) {
+                Some(Ok(sample)) => *slot = sample,
+                Some(Err(error)) => return (count, Err(error)),
+                None => return (count, Ok(())),
+            }
         }
-        Int24 if is_int && size >= 4 => reader.read_container().map(|[low, middle, high]| {
-            proved::value_24(u32::from(u16::from_le_bytes([low, middle])) | u32::from(high) << 16)
-        }),
-        Int32 if is_int && size >= 4 => {
-            reader.read_container().map(|bytes| proved::value_32(u32::from_le_bytes(bytes)))
-        }
-        Int8 if is_int => reader.read_container().map(|bytes| proved::value_8(u8::from_le_bytes(bytes).into())),
-        Int24In4 if is_int && size >= 4 => {
-            reader.read_container().map(|bytes| proved::value_24(u32::from_le_bytes(bytes)))
-        }
-        Float | Int8 | Int16 | Int24 | Int24In4 | Int32 => return None,
-    })
-}
-
-impl<R: io::Read> ReadContainer for R {
-    #[inline(always)]
-    fn read_container<const WIDTH: usize>(&mut self) -> io::Result<[u8; WIDTH]> {
-        let mut container = [0; WIDTH];
-        match self.read(&mut container) {
-            Ok(count) if count >= WIDTH => Ok(container),
-            first => read_rest(self, &mut container, first, &mut 0).map(|()| container),
-        }
+        (samples.len(), Ok(()))
     }
 }
 
-// Why containers aren't read as this type. It takes no byte.
+#[inline(always)]
+fn put<W: Write + Seek, S: Proved>(writer: &mut Writer<W>, sample: S) -> Result<()> {
+    writer.output.accept_sample(sample, &mut writer.fault).map_err(|reason| rejected(writer, reason))
+}
+
+#[inline(always)]
+fn put_all<W: Write + Seek, S: Proved + Copy>(writer: &mut Writer<W>, samples: &[S]) -> Result<()> {
+    writer.output.accept_samples(samples, &mut writer.fault).map_err(|reason| rejected(writer, reason))
+}
+
 #[cold]
-fn rejected<S: proved::Coded>(format: SampleFormat, bits: u16, width: u16) -> Result<S> {
-    proved::decode::<S>(&containers(format, bits, width), &[], &mut [])?;
-    Err(Error::Unsupported)
-}
-
-// Why containers aren't written of this type. It writes no byte.
-#[cold]
-fn unwritten<S: proved::Coded>(spec: proved::Spec) -> Error {
-    match proved::encode::<S>(&spec, &[], &mut []) {
-        Err(error) => error.into(),
-        Ok(_) => Error::Unsupported,
-    }
-}
-
-/// Writes the container of an integer, or of a float that is given as the integer of its bits.
-#[inline(always)]
-fn write_container<S: proved::Coded, W: io::Write>(value: i32, writer: &mut W, spec: proved::Spec) -> Result<()> {
-    match Container::of(&spec) {
-        Some(Container::Int16) => write_number::<2, W>(writer, proved::container_16(value)),
-        Some(Container::Int24) => write_number::<3, W>(writer, proved::container_24(value)),
-        Some(Container::Int32 | Container::Float) => write_number::<4, W>(writer, proved::container_32(value)),
-        Some(Container::Int8) => write_number::<1, W>(writer, proved::container_8(value)),
-        Some(Container::Int24In4) => write_number::<4, W>(writer, proved::container_24(value)),
-        None => Err(unwritten::<S>(spec)),
-    }
-}
-
-#[inline(always)]
-fn write_number<const WIDTH: usize, W: io::Write>(writer: &mut W, number: proved::Result<u32>) -> Result<()> {
-    Ok(writer.write_all(&number?.to_le_bytes()[..WIDTH])?)
+#[inline(never)]
+fn rejected<W: Write + Seek>(writer: &mut Writer<W>, reason: SampleError) -> Error {
+    writer.output.writer.resume();
+    error_of_sample(reason, &mut writer.fault).into()
 }
 
 macro_rules! sample {
-    ($type:ident, $format:ident, $from:expr, $to:expr, $as_i16:expr) => {
+    ($type:ident, $as_i16:expr) => {
         impl Sample for $type {
             #[inline]
             fn write<W: io::Write>(self, writer: &mut W, bits: u16) -> Result<()> {
-                write_container::<$type, W>($to(self), writer, unpadded(SampleFormat::$format, bits))
+                Sample::write_padded(self, writer, bits, bits / 8)
             }
 
             #[inline]
             fn write_padded<W: io::Write>(self, writer: &mut W, bits: u16, byte_width: u16) -> Result<()> {
-                write_container::<$type, W>($to(self), writer, containers(SampleFormat::$format, bits, byte_width))
+                let container = self.encode(bits, byte_width)?;
+                Ok(writer.write_all(&container[..usize::from(byte_width)])?)
             }
 
             #[inline]
             fn read<R: io::Read>(reader: &mut R, format: SampleFormat, bytes: u16, bits: u16) -> Result<$type> {
-                let container = Container::of(&containers(format, bits, bytes));
-                match read_value(reader, SampleFormat::$format, container, mem::size_of::<$type>()) {
-                    Some(value) => Ok(value.map($from)?),
-                    None => rejected::<$type>(format, bits, bytes),
-                }
+                Ok(<$type as Proved>::read(&mut Input(reader), format, bytes, bits)?)
             }
 
             #[inline(always)]
@@ -142,19 +110,100 @@ macro_rules! sample {
                 $as_i16(self)
             }
 
-            const __HOUND_CODING: Option<Coding<$type>> = Some(Coding {
-                format: SampleFormat::$format,
-                from: $from,
-                to: $to,
-                decode: proved::decode,
-                encode: proved::encode,
-            });
+            #[inline(always)]
+            fn __hound_write<W: Write + Seek>(self, writer: &mut Writer<W>) -> Result<()> {
+                put(writer, self)
+            }
+
+            #[inline]
+            fn __hound_write_all<W: Write + Seek>(samples: &[$type], writer: &mut Writer<W>) -> Result<()> {
+                put_all(writer, samples)
+            }
+
+            #[inline(always)]
+            fn __hound_read<R: Read>(reader: &mut Reader<R>, spec_ex: WavSpecEx) -> Option<Result<$type>> {
+                let item = reader.next_item(spec_ex)?;
+                Some(item.map_err(|reason| error_of_sample(reason, reader.last_fault()).into()))
+            }
+
+            fn __hound_read_all<R: Read>(reader: &mut Reader<R>, samples: &mut [$type]) -> (usize, Result<()>) {
+                let (count, result) = reader.read_samples(samples);
+                (count, result.map_err(Error::from))
+            }
         }
     };
 }
-sample!(i8, Int, |int| int as i8, i32::from, i16::from);
-sample!(i16, Int, |int| int as i16, i32::from, |sample| sample);
-sample!(i32, Int, |int| int, |sample: i32| sample, |sample| sample as i16);
-sample!(f32, Float, |int| f32::from_bits(int as u32), |float: f32| float.to_bits() as i32, |_| panic!(
-    "a float has no 16 bits"
-));
+sample!(i8, i16::from);
+sample!(i16, |sample| sample);
+sample!(i32, |sample| sample as i16);
+sample!(f32, |_| panic!("Calling as_i16 with an f32 is invalid."));
+
+/// What a type of the user's own writes: one container, or it is rejected.
+#[derive(Clone, Copy)]
+struct Container {
+    bytes: [u8; 4],
+    length: usize,
+}
+
+impl Container {
+    #[inline]
+    fn of<S: Sample>(sample: S, spec_ex: WavSpecEx) -> Result<Container> {
+        let mut container = Container { bytes: [0; 4], length: 0 };
+        sample.write_padded(&mut container, spec_ex.spec.bits_per_sample, spec_ex.bytes_per_sample)?;
+        if container.length == usize::from(spec_ex.bytes_per_sample) {
+            Ok(container)
+        } else {
+            Err(Error::Unsupported)
+        }
+    }
+}
+
+impl io::Write for Container {
+    #[inline]
+    fn write(&mut self, bytes: &[u8]) -> io::Result<usize> {
+        if let Some(room) = self.bytes.get_mut(self.length..).and_then(|room| room.get_mut(..bytes.len())) {
+            room.copy_from_slice(bytes);
+        }
+        self.length += bytes.len();
+        Ok(bytes.len())
+    }
+
+    #[inline]
+    fn write_all(&mut self, bytes: &[u8]) -> io::Result<()> {
+        self.write(bytes).map(drop)
+    }
+
+    fn flush(&mut self) -> io::Result<()> {
+        Ok(())
+    }
+}
+
+impl Proved for Container {
+    fn read<R: io::Read>(_: &mut R, _: SampleFormat, _: u16, _: u16) -> spec::Result<Container> {
+        Err(spec::Error::Unsupported)
+    }
+
+    fn as_i16(self) -> i16 {
+        0
+    }
+
+    #[inline(always)]
+    fn encode(self, _: u16, _: u16) -> spec::Result<[u8; 4]> {
+        Ok(self.bytes)
+    }
+}
+
+/// What a type of the user's own reads from.
+struct Counting<'r, R> {
+    reader: &'r mut Input<R>,
+    given: &'r mut u64,
+}
+
+impl<R: io::Read> io::Read for Counting<'_, R> {
+    #[inline]
+    fn read(&mut self, bytes: &mut [u8]) -> io::Result<usize> {
+        let count = self.reader.read(bytes)?;
+        *self.given += count as u64;
+        Ok(count)
+    }
+}

@@ -46,6 +46,14 @@ impl Disk {
     fn samples(&self) -> Vec<i16> {
         WavReader::new(Cursor::new(self.contents())).unwrap().into_samples().collect::<Result<_>>().unwrap()
     }
+
+    /// The samples that the header counts, also where they are no whole frames, which readers reject.
+    fn counted(&self) -> Vec<i16> {
+        let file = self.contents();
+        let start = if file[16] == 16 { 44 } else { 68 };
+        let length = u32::from_le_bytes([file[start - 4], file[start - 3], file[start - 2], file[start - 1]]) as usize;
+        file[start..start + length].chunks(2).map(sample_of).collect()
+    }
 }
 
 impl Read for Disk {
@@ -72,6 +80,10 @@ impl Seek for Disk {
     fn seek(&mut self, to: SeekFrom) -> io::Result<u64> {
         self.call()?.file.seek(to)
     }
+}
+
+fn sample_of(container: &[u8]) -> i16 {
+    i16::from_le_bytes([container[0], container[1]])
 }
 
 #[test]
@@ -308,16 +320,16 @@ impl Sample for Bytes {
 }
 
 #[test]
-fn bytes_of_a_users_own_type_are_whole_containers_or_rejected() {
+fn bytes_of_a_users_own_type_are_one_container_or_rejected() {
     let mut file = Cursor::new(Vec::new());
     let mut writer = WavWriter::new(&mut file, MONO).unwrap();
-    for (bytes, len) in [(2, 1), (1, 1), (2, 2), (3, 2), (4, 4), (0, 4), (2, 5)] {
+    for (bytes, len) in [(2, 1), (1, 1), (2, 2), (3, 2), (4, 2), (0, 2), (9, 2), (2, 3)] {
         let result = writer.write_sample(Bytes(bytes));
-        assert!(if bytes % 2 == 0 { result.is_ok() } else { matches!(result, Err(Error::Unsupported)) });
+        assert!(if bytes == 2 { result.is_ok() } else { matches!(result, Err(Error::Unsupported)) });
         assert_eq!(writer.len(), len);
     }
     writer.finalize().unwrap();
-    assert_eq!(file.get_ref()[40..], [10, 0, 0, 0, 7, 7, 7, 7, 7, 7, 7, 7, 7, 7]);
+    assert_eq!(file.get_ref()[40..], [6, 0, 0, 0, 7, 7, 7, 7, 7, 7]);
 }
 
 #[test]
@@ -365,29 +377,34 @@ fn a_file_is_appended_to_after_batches_and_flushes() {
 }
 
 #[test]
-fn a_frame_that_is_not_finished_waits_and_is_reported() {
+fn a_frame_that_is_not_finished_is_stored_and_reported() {
     for (way, frame) in (0..WAYS).flat_map(|way| [2, 3, 5, 6, 5000, 16383].map(|frame| (way, frame))) {
         let disk = Disk::default();
         let spec = WavSpec { channels: frame as u16, sample_rate: 8000, ..MONO };
+        let rejects = |disk: &Disk| WavReader::new(Cursor::new(disk.contents())).map(drop);
         let mut writer = WavWriter::new(disk.clone(), spec).unwrap();
         write_by(way, &mut writer, 0, frame + 1).unwrap();
         assert!(matches!(writer.flush(), Err(Error::UnfinishedSample)));
-        assert!((disk.samples(), writer.len() as usize, writer.duration()) == (numbers(frame), frame + 1, 1));
+        assert!((disk.counted(), writer.len() as usize, writer.duration()) == (numbers(frame + 1), frame + 1, 1));
+        assert!(matches!(rejects(&disk), Err(Error::FormatError("invalid data chunk length"))));
         write_by(way, &mut writer, frame + 1, 2 * frame - 2).unwrap();
         assert!(matches!(writer.flush(), Err(Error::UnfinishedSample)));
-        assert!((disk.samples(), writer.len() as usize, writer.duration()) == (numbers(2 * frame), 3 * frame - 1, 2));
+        assert!((disk.counted(), writer.duration()) == (numbers(3 * frame - 1), 2));
+        // The sample that finishes the frame makes readers take the file.
         write_by((way + 1) % WAYS, &mut writer, 3 * frame - 1, 1).unwrap();
         writer.flush().unwrap();
-        write_by(way, &mut writer, 0, frame - 1).unwrap();
-        assert!(matches!(writer.finalize(), Err(Error::UnfinishedSample)));
         assert!(disk.samples() == numbers(3 * frame));
+        write_by(way, &mut writer, 3 * frame, frame - 1).unwrap();
+        assert!(matches!(writer.finalize(), Err(Error::UnfinishedSample)));
+        assert!(disk.counted() == numbers(4 * frame - 1));
     }
 }
 
 #[test]
-fn a_writer_that_is_dropped_within_a_frame_leaves_the_frames_before_it() {
+fn a_writer_that_is_dropped_within_a_frame_leaves_all_samples_to_a_repair() {
     let path = Path::new("torn");
-    for bits in [8, 16, 24] {
+    // The pad byte after an odd number of bytes is a sample of 8 bits to a repair, and finishes the frame.
+    for (bits, left) in [(8, &[0, -128][..]), (16, &[]), (24, &[])] {
         let broken = || {
             let spec = WavSpec { channels: 2, bits_per_sample: bits, ..MONO };
             let mut writer = WavWriter::create_durable(&path, spec).unwrap();
@@ -397,13 +414,41 @@ fn a_writer_that_is_dropped_within_a_frame_leaves_the_frames_before_it() {
             panic!("a mistake of the program");
         };
         assert!(catch_unwind(AssertUnwindSafe(broken)).is_err());
+        assert!(matches!(WavReader::open(&path), Err(Error::FormatError("invalid data chunk length"))));
+        let found = hound::repair_file(&path).unwrap();
+        assert_eq!((found.state, found.counted), (hound::RepairState::CutOff, 4650));
         let found = WavReader::open(&path).unwrap().into_samples::<i32>().map(|sample| sample.unwrap());
-        assert!(found.eq((0..9000).chain(0..300).map(|i| i % 100)));
+        assert!(found.eq((0..9000).chain(0..300).map(|i| i % 100).chain(left.iter().copied())));
+    }
+}
+
+/// What is in the file after a fault is what was flushed, and after it samples that were accepted.
+#[test]
+fn a_full_medium_leaves_what_was_flushed() {
+    let sizes = [0, 1, 100, 2047, 2048, 2049, 9000];
+    for (channels, held) in [1, 2, 6].into_iter().flat_map(|channels| sizes.map(|held| (channels, held))) {
+        for end in ["finalize", "flush", "drop"] {
+            let disk = Disk::default();
+            let mut writer = WavWriter::new(disk.clone(), WavSpec { channels, ..MONO }).unwrap();
+            let start = disk.contents().len();
+            write_by(0, &mut writer, 0, 6).unwrap();
+            writer.flush().unwrap();
+            disk.0.borrow_mut().room = Some(start + 2 * (6 + held) + 1);
+            let accepted = 6 + (6..12000).take_while(|&i| writer.write_sample(i as i16).is_ok()).count();
+            assert!(accepted >= 6 + held);
+            match end {
+                "finalize" => assert!(writer.finalize().is_err()),
+                "flush" => assert!(writer.flush().is_err()),
+                _ => drop(writer),
+            }
+            assert_eq!(disk.samples(), numbers(6));
+            assert!(disk.contents()[start..].chunks_exact(2).map(sample_of).eq(numbers(6 + held)));
+        }
     }
 }
 
 #[test]
-fn the_checkpoint_that_a_fault_forces_holds_whole_frames() {
+fn what_was_flushed_stays_after_a_fault_and_what_was_accepted_comes_later() {
     for (channels, bits) in [1, 2, 3, 5, 6].iter().flat_map(|&channels| [8, 16].map(|bits| (channels, bits))) {
         let disk = Disk::default();
         let mut writer = WavWriter::new(disk.clone(), WavSpec { channels, bits_per_sample: bits, ..MONO }).unwrap();
@@ -415,11 +460,10 @@ fn the_checkpoint_that_a_fault_forces_holds_whole_frames() {
         disk.0.borrow_mut().room = Some(length + 4097 * usize::from(bits / 8));
         let accepted = 6000 + write(&mut writer, 6000, 18000);
         assert!(accepted < 18000);
-        // This writes the sizes first, and then, without success, samples.
         assert!(writer.write_sample(1).is_err());
         let right = |count: usize| (0..count).map(|i| i as i16 % 100).collect::<Vec<_>>();
         let stored = disk.samples();
-        assert!(stored.len() >= 6000 && stored.len() % usize::from(channels) == 0 && stored == right(stored.len()));
+        assert!(stored == right(6000));
         disk.0.borrow_mut().room = None;
         assert_eq!(accepted + write(&mut writer, accepted as i32, 18000), 18000);
         writer.finalize().unwrap();
@@ -428,40 +472,16 @@ fn the_checkpoint_that_a_fault_forces_holds_whole_frames() {
 }
 
 #[test]
-fn the_blocks_that_a_full_medium_holds_are_counted() {
-    let sizes = [0, 1, 100, 4095, 4096, 4097, 9000];
-    for (channels, held) in [1, 2, 6].into_iter().flat_map(|channels| sizes.map(|held| (channels, held))) {
-        for end in ["finalize", "flush", "drop"] {
-            let disk = Disk::default();
-            let mut writer = WavWriter::new(disk.clone(), WavSpec { channels, ..MONO }).unwrap();
-            let length = disk.contents().len();
-            disk.0.borrow_mut().room = Some(length + 2 * held + 1);
-            assert!((0..12000).take_while(|&i| writer.write_sample(i as i16).is_ok()).count() >= held);
-            match end {
-                "finalize" => assert!(writer.finalize().is_err()),
-                "flush" => assert!(writer.flush().is_err()),
-                _ => drop(writer),
-            }
-            // The block that had no room isn't; the buffer has at most 4096 samples, and those of a frame that was
-            // begun.
-            let (counted, frame) = (disk.samples(), usize::from(channels));
-            assert!(counted == numbers(counted.len()) && counted.len() % frame == 0);
-            assert!(counted.len() <= held && counted.len() + 4096 + frame > held);
-        }
-    }
-}
-
-#[test]
 fn few_samples_make_no_call_of_the_medium() {
     for way in 0..WAYS {
         let disk = Disk::default();
         let mut writer = WavWriter::new(disk.clone(), WavSpec { channels: 2, ..MONO }).unwrap();
-        (0..4096).step_by(4).for_each(|first| write_by(way, &mut writer, first, 4).unwrap());
-        assert_eq!((disk.contents().len(), writer.len()), (44, 4096), "way {way}");
-        (4096..20_000).step_by(7).for_each(|first| write_by(way, &mut writer, first, 7).unwrap());
+        (0..2044).step_by(4).for_each(|first| write_by(way, &mut writer, first, 4).unwrap());
+        assert_eq!((disk.contents().len(), writer.len()), (44, 2044), "way {way}");
+        (2044..20_000).step_by(7).for_each(|first| write_by(way, &mut writer, first, 7).unwrap());
         assert!(disk.0.borrow().calls < 20, "way {way}");
         writer.flush().unwrap();
-        assert!(disk.samples() == numbers(20_000));
+        assert!(disk.counted() == numbers(2044 + (20_000 - 2044 + 6) / 7 * 7));
     }
 }
 
@@ -515,8 +535,17 @@ fn a_write_that_is_interrupted_or_short_is_continued() {
     }
 }
 
+/// The fault that a caller gets is the one that the medium returned, and no copy of its kind.
+fn is_of_the_medium<T>(result: Result<T>) {
+    match result {
+        Err(Error::IoError(fault)) => assert_eq!(fault.to_string(), "the medium fails"),
+        Ok(_) | Err(Error::UnfinishedSample) => {}
+        Err(other) => panic!("{other:?}"),
+    }
+}
+
 /// Each call of the medium fails, or panics, in turn, and some samples are written by each way: what a writer accepted
-/// is there after that, in whole frames.
+/// is there after that, and nothing else.
 fn try_each_call(panics: bool) {
     for (way, channels) in (0..WAYS).flat_map(|way| [1, 2, 3].map(|channels| (way, channels))) {
         let counts = if way == 3 { [1, 20, 7, 21] } else { [1, 5000, 4500, 8] };
@@ -529,19 +558,20 @@ fn try_each_call(panics: bool) {
                     let result = write_by(way, &mut writer, accepted, count);
                     accepted = writer.len() as usize;
                     if result.is_err() {
+                        is_of_the_medium(result);
                         break;
                     }
-                    let _ = if count == 8 || count == 21 { Ok(()) } else { writer.flush() };
+                    is_of_the_medium(if count == 8 || count == 21 { Ok(()) } else { writer.flush() });
                 }
-                let _ = writer.finalize();
+                is_of_the_medium(writer.finalize());
             });
             let has_panicked = catch_unwind(run).is_err();
             let is_met = disk.0.borrow().calls >= fails;
             assert_eq!(has_panicked, is_met && panics);
-            // What a call accepted before it panicked may be there, too.
-            let (found, frame) = (disk.samples(), usize::from(channels));
-            let whole = if panics { found.len() } else { accepted } / frame * frame;
-            assert!(found == numbers(whole) && whole + frame > accepted, "call {fails}, way {way}");
+            // A call that panicked within may have accepted samples, and `finalize` may have panicked after all.
+            let found = disk.counted();
+            let most = if panics { found.len() } else { accepted };
+            assert!(found == numbers(most) && most >= accepted, "call {fails}, way {way}");
             if !is_met {
                 break;
             }
@@ -557,6 +587,102 @@ fn a_call_that_fails_once_loses_nothing_that_was_accepted() {
 #[test]
 fn a_medium_that_panics_once_ends_no_program_and_loses_nothing_that_was_accepted() {
     try_each_call(true);
+}
+
+#[test]
+fn a_fault_of_a_reader_is_returned_as_it_is_and_reading_continues() {
+    for fails in 1..60 {
+        let disk = Disk::default();
+        disk.0.borrow_mut().file = Cursor::new(written(MONO, &numbers(100)));
+        disk.0.borrow_mut().fails = fails;
+        let mut reader = match WavReader::new(disk.clone()) {
+            Ok(reader) => reader,
+            error => {
+                is_of_the_medium(error);
+                continue;
+            }
+        };
+        let mut block = [0i16; 7];
+        for time in 0..9 {
+            is_of_the_medium(reader.seek(time).map_err(Error::from));
+            reader.samples::<i16>().take(2).for_each(is_of_the_medium);
+            reader.samples::<Inverse>().take(2).for_each(is_of_the_medium);
+            is_of_the_medium(reader.read_samples(&mut block).1);
+        }
+        reader.seek(50).unwrap();
+        assert!(reader.samples::<i16>().map(|sample| sample.unwrap()).eq(50..100));
+    }
+}
+
+#[test]
+fn a_read_that_is_interrupted_is_an_error_as_by_hound_and_takes_no_byte() {
+    /// Each second read is interrupted, or panics.
+    struct Broken(Cursor<Vec<u8>>, usize, bool);
+    impl Read for Broken {
+        fn read(&mut self, bytes: &mut [u8]) -> io::Result<usize> {
+            self.1 += 1;
+            if self.1 % 2 == 0 || self.0.position() < 44 {
+                return self.0.read(bytes);
+            }
+            assert!(!self.2, "the reader panics");
+            Err(io::ErrorKind::Interrupted.into())
+        }
+    }
+    impl Seek for Broken {
+        fn seek(&mut self, to: SeekFrom) -> io::Result<u64> {
+            self.0.seek(to)
+        }
+    }
+    let file = || Cursor::new(written(MONO, &numbers(9)));
+    let is_interrupted = |error: &Error| {
+        matches!(error, Error::IoError(fault) if fault.kind() == io::ErrorKind::Interrupted)
+    };
+    let mut reader = WavReader::new(Broken(file(), 1, false)).unwrap();
+    let items: Vec<_> = reader.samples::<i16>().map(|item| item.map_err(|error| is_interrupted(&error))).collect();
+    assert_eq!(items, [Err(true), Ok(0), Err(true), Ok(1), Err(true), Ok(2), Err(true), Ok(3), Err(true)]);
+    reader.seek(6).unwrap();
+    let mut block = [9i16; 3];
+    assert_eq!(reader.samples::<i16>().next().unwrap().unwrap(), 6);
+    assert!(matches!(reader.read_samples(&mut block), (0, Err(error)) if is_interrupted(&error)));
+    assert!(matches!(reader.read_samples(&mut block), (1, Ok(()))));
+    assert_eq!(block, [7, 9, 9]);
+    // A panic of the reader goes through, and the sample that was to be read comes next.
+    let mut reader = WavReader::new(Broken(file(), 1, true)).unwrap();
+    for number in 0..9 {
+        let next = AssertUnwindSafe(|| reader.samples::<i16>().next());
+        assert!(catch_unwind(next).is_err());
+        assert_eq!(reader.samples::<i16>().next().unwrap().unwrap(), number);
+    }
+    assert!(reader.samples::<i16>().next().is_none());
+    reader.seek(3).unwrap();
+    assert_eq!(reader.samples::<i16>().len(), 6);
+}
+
+#[test]
+fn a_writer_that_claims_more_bytes_than_it_was_given_took_these() {
+    struct Boastful(Disk);
+    impl Write for Boastful {
+        fn write(&mut self, bytes: &[u8]) -> io::Result<usize> {
+            self.0.write(bytes).map(|count| count + 7)
+        }
+        fn flush(&mut self) -> io::Result<()> {
+            self.0.flush()
+        }
+    }
+    impl Seek for Boastful {
+        fn seek(&mut self, to: SeekFrom) -> io::Result<u64> {
+            self.0.seek(to)
+        }
+    }
+    for way in 0..WAYS {
+        let disk = Disk::default();
+        let mut writer = WavWriter::new(Boastful(disk.clone()), MONO).unwrap();
+        write_by(way, &mut writer, 0, 5000).unwrap();
+        writer.flush().unwrap();
+        write_by(way, &mut writer, 5000, 4000).unwrap();
+        writer.finalize().unwrap();
+        assert_eq!(disk.contents(), written(MONO, &numbers(9000)));
+    }
 }
 
 #[test]
@@ -919,13 +1045,11 @@ fn what_follows_the_counted_samples_is_overwritten_as_by_hound() {
         assert_eq!((writer.len(), fs::read(&path).unwrap()), (3, longer.clone()));
         writer.write_sample(9i16).unwrap();
         writer.finalize().unwrap();
-        assert_eq!(fs::read(&path).unwrap(), written(MONO, &[1i16, 2, 3, 9]));
-        // What can't be cut off stays after the data.
         let mut medium = Cursor::new(longer.clone());
         WavWriter::new_append(&mut medium).unwrap().write_sample(9i16).unwrap();
-        let mut wanted = written(MONO, &[1i16, 2, 3, 9]);
-        wanted.extend(longer.get(wanted.len()..).unwrap_or(&[]));
-        assert_eq!(medium.into_inner(), wanted);
+        let mut expected = written(MONO, &[1i16, 2, 3, 9]);
+        expected.extend(longer.get(expected.len()..).unwrap_or(&[]));
+        assert_eq!((fs::read(&path).unwrap(), medium.into_inner()), (expected.clone(), expected));
     }
 }
 
@@ -1154,14 +1278,15 @@ fn a_file_gets_no_longer_than_its_sizes_count() {
 }
 
 #[test]
-fn the_longest_file_has_room_for_what_is_buffered_and_for_whole_frames() {
+fn the_longest_file_has_room_for_what_is_buffered() {
     for channels in [2, 3, 7] {
         let frame = 2 * u32::from(channels);
-        let longest = (u32::MAX - 60 - 1) / frame * frame;
         let mut header = written::<i16>(WavSpec { channels, ..MONO }, &[]);
         let start = header.len();
-        let most = if start == 44 { (u32::MAX - 36) / frame * frame } else { longest };
-        header[start - 4..].copy_from_slice(&(most - 1000 * frame).to_le_bytes());
+        // The RIFF size counts all but the first 8 bytes, and data of an even length.
+        let most = (u32::MAX - (start as u32 - 8)) / 2 * 2;
+        let before = most / frame * frame - 1000 * frame;
+        header[start - 4..].copy_from_slice(&before.to_le_bytes());
         let mut file = Long { header: Cursor::new(header), place: 0 };
         let mut writer = WavWriter::new_append(&mut file).unwrap();
         let mut count = 0;
@@ -1169,8 +1294,8 @@ fn the_longest_file_has_room_for_what_is_buffered_and_for_whole_frames() {
             count += (0..100).filter(|_| writer.write_sample(3i16).is_ok()).count();
             assert!(i % 3 > 0 || matches!(writer.flush(), Ok(()) | Err(Error::UnfinishedSample)));
         }
-        assert_eq!(count, 1000 * usize::from(channels));
-        writer.finalize().unwrap();
+        assert_eq!(count as u32, (most - before) / 2);
+        assert_eq!(writer.finalize().is_ok(), most % frame == 0);
         assert_eq!(file.header.into_inner()[start - 4..], most.to_le_bytes());
     }
 }

@@ -47,7 +47,7 @@ impl<'a> WavReader<&'a [u8]> {
     /// No read of bytes in memory fails. So an error is one of the causes that the bytes have, and an `IoError` is that
     /// they end early, which no contract of `new` says.
     ///
-    /// ```ignore
+    /// ```text
     /// let mut reader = WavReader::from_bytes(bytes)?;
     /// let (count, result) = reader.decode_samples(&mut block);
     /// ```

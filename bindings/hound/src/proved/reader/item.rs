@@ -47,7 +47,7 @@ pub(crate) struct SavingReader<R> {
 
 impl<R: io::Read> SavingReader<R> {
     /// How many bytes a read gives, if it doesn't fail. The fault is saved, and so is the end.
-    #[inline]
+    #[inline(always)]
     pub(crate) fn read_or_save_error(&mut self, buf: &mut [u8]) -> Option<usize> {
         match self.reader.read(buf) {
             Ok(0) => {

@@ -19,7 +19,7 @@ use std::{io, result};
 /// read: a slice of bytes, a `Tape`, a `Journal`, a `BufReader<File>`, or a `&mut` to one, which is then still there at
 /// an error.
 ///
-/// ```ignore
+/// ```text
 /// let mut reader = WavReader::new(bytes)?;
 /// for sample in reader.samples::<i32>() {
 ///     sum = sum.wrapping_add(i64::from(sample?));
@@ -119,7 +119,7 @@ impl<R: io::Read> WavReader<R> {
     /// or for an empty slice. An `Err` is the item that the iterator would give next, and [`WavReader::samples_left`]
     /// counts it as one: an error of the type, which comes before any byte is taken, a fault, or an early end.
     ///
-    /// ```ignore
+    /// ```text
     /// let (count, result) = reader.read_samples(&mut block);
     /// for sample in &block[..count] {
     ///     sum = sum.wrapping_add(i64::from(*sample));
@@ -161,7 +161,7 @@ impl<R: io::Read> WavReader<R> {
     /// many times the sample rate. The one error is the source's own: then the reader counts as before, and a source
     /// whose bytes are known is where it was.
     ///
-    /// ```ignore
+    /// ```text
     /// let mut reader = WavReader::new(Cursor::new(bytes))?;
     /// reader.seek(2)?;
     /// reader.into_samples::<i16>().next().transpose()

@@ -24,7 +24,7 @@ use std::io;
 /// not written with these bits, bytes and format; `TooLong`, where the RIFF size would pass 4294967295; at these
 /// nothing is written. `IoError`, where the medium failed; a size may be torn then, and another call mends it.
 ///
-/// ```ignore
+/// ```text
 /// match repair(tape) {
 ///     Ok((tape, found)) => {
 ///         let samples = WavReader::new(tape.bytes())?.len(); // As many as were found.

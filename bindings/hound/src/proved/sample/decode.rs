@@ -104,8 +104,8 @@ fn read_piece<R: io::Read>(reader: &mut R, piece: &mut [u8]) -> (usize, io::Resu
 #[inline(always)]
 pub(crate) fn decode_each<S: Decode>(from: &[u8], samples: &mut [S], fmt: SampleFormat, bits: u16, width: u16) {
     let size = width as usize;
-    for i in 0..samples.len() {
-        samples[i] = S::decode(&from[i * size..(i + 1) * size], fmt, width, bits);
+    for (sample, container) in samples.iter_mut().zip(from.chunks_exact(size.max(1))) {
+        *sample = S::decode(container, fmt, width, bits);
     }
 }
 

@@ -6,7 +6,6 @@ use crate::proved::sample::decode::{Decode, check_type, decode_next, read_contai
 use crate::proved::sample::item::{ContainerReader, SampleError};
 use crate::proved::number::{le_u32, u32_at};
 use crate::proved::spec::{Error, Result, SampleFormat};
-use crate::rattle::{f32_from_bits_with_nan, f32_to_bits_with_nan};
 use std::{io, result};
 
 /// A floating-point sample of 32 bits, by its bit pattern.
@@ -16,31 +15,15 @@ use std::{io, result};
 /// pattern there. `==` compares patterns, so 0.0 and -0.0 differ. It can't be cast to sixteen bits: generic code can't
 /// do it, and `as_i16` of the type itself returns 0.
 ///
-/// ```ignore
+/// ```text
 /// writer.write_sample(FloatBits::from(0.5))?;
 /// writer.finalize()?;
 /// let mut reader = WavReader::new(tape.bytes())?;
 /// let sample = reader.samples::<FloatBits>().next().transpose()?;
 /// ```
-#[repr(C)]
-#[derive(Clone, Copy, Debug, PartialEq, Eq)]
-pub struct FloatBits(pub u32);
+pub type FloatBits = f32;
 
 /// The pattern of a number.
-impl From<f32> for FloatBits {
-    #[inline]
-    fn from(number: f32) -> FloatBits {
-        FloatBits(f32_to_bits_with_nan(number))
-    }
-}
-
-impl FloatBits {
-    /// The number of this pattern. That of a NaN gives a NaN.
-    #[inline]
-    pub fn to_f32(self) -> f32 {
-        f32_from_bits_with_nan(self.0)
-    }
-}
 
 impl Decode for FloatBits {
     #[inline(always)]
@@ -50,7 +33,7 @@ impl Decode for FloatBits {
 
     #[inline(always)]
     fn decode(container: &[u8], fmt: SampleFormat, width: u16, bits: u16) -> FloatBits {
-        FloatBits(u32_at(container, 0))
+        f32::from_bits(u32_at(container, 0))
     }
 }
 
@@ -89,7 +72,7 @@ impl Sample for FloatBits {
     #[inline(always)]
     fn encode(self, bits: u16, width: u16) -> Result<[u8; 4]> {
         if bits == 32 && width == 4 {
-            return Ok(le_u32(self.0));
+            return Ok(le_u32(self.to_bits()));
         }
         Err(Error::Unsupported)
     }

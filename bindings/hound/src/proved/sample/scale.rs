@@ -8,7 +8,7 @@ use crate::rattle::{f32_to_f64_with_nan, nearest_u32_to_f32, saturating_f64_to_i
 /// It is the `f32` that is nearest to the quotient, of two the even one. Integers of up to 24 bits come back from
 /// `float_to_int` unchanged, as tests show.
 ///
-/// ```ignore
+/// ```text
 /// let half = int_to_float(16384, 16); // 0.5
 /// ```
 #[inline]
@@ -37,7 +37,7 @@ pub(crate) fn int_to_double(sample: i32, bits: u16) -> f64 {
 /// It is times `2^(bits - 1)`, rounded to the nearest integer, of two to the even one. What is then past the largest
 /// one, or the lowest, is clipped to it; a NaN gives 0.
 ///
-/// ```ignore
+/// ```text
 /// let (sample, is_clipped) = float_to_int(1.0, 16); // 32767, true
 /// ```
 #[inline]
@@ -82,7 +82,7 @@ fn clip_distant(number: f64, bits: u16, count: &mut u64) -> i32 {
 /// More bits are zeros below. Fewer are the nearest integer, a half upwards; the largest ones may then need a bit more,
 /// and are clipped.
 ///
-/// ```ignore
+/// ```text
 /// let (sample, is_clipped) = change_bits(0x123480, 24, 16); // 0x1235, false
 /// ```
 #[inline]

@@ -61,14 +61,12 @@ pub(crate) fn store_container(bytes: &mut [u8], at: usize, container: [u8; 4], w
 // Stores the containers of samples one after the other.
 #[inline(always)]
 fn store_each<S: Sample + Copy>(bytes: &mut [u8], samples: &[S], bits: u16, width: u16) {
-    let mut end = 0;
-    for sample in samples {
+    for (bytes, sample) in bytes.chunks_exact_mut((width as usize).max(1)).zip(samples) {
         let container = match sample.encode(bits, width) {
             Ok(container) => container,
             Err(_) => [0; 4],
         };
-        store_container(bytes, end, container, width as usize);
-        end += width as usize;
+        store_container(bytes, 0, container, width as usize);
     }
 }
 

@@ -16,7 +16,7 @@ pub enum SampleFormat {
 ///
 /// The fields can be any numbers; [`WavSpecEx::is_writable`] says which of them a file can be written with.
 ///
-/// ```ignore
+/// ```text
 /// let spec = WavSpec {
 ///     channels: 1,
 ///     sample_rate: 44100,
@@ -41,7 +41,7 @@ pub struct WavSpec {
 ///
 /// `WavSpecEx::from(spec)` has the default width.
 ///
-/// ```ignore
+/// ```text
 /// let spec_ex = WavSpecEx {
 ///     spec: WavSpec {
 ///         bits_per_sample: 24,

@@ -43,7 +43,7 @@ impl<W: Source + Medium> WavWriter<W> {
     /// Appends to the file in a medium, as [`WavWriter::try_append`] does, which returns the medium at an error:
     /// conditions and errors are the same. Here it is dropped, unless it was lent.
     ///
-    /// ```ignore
+    /// ```text
     /// let mut writer = WavWriter::new_append(&mut tape)?;
     /// writer.write_samples(&[11i16, -13])?;
     /// writer.finalize()?;

@@ -34,12 +34,8 @@ impl Block {
     /// Appends a container of this many bytes, if there is room for four.
     #[inline(always)]
     pub(crate) fn push(&mut self, container: [u8; 4], width: usize) {
-        let [a, b, c, d] = container;
         let at = self.length;
-        self.bytes[at] = a;
-        self.bytes[at + 1] = b;
-        self.bytes[at + 2] = c;
-        self.bytes[at + 3] = d;
+        self.bytes[at..at + 4].copy_from_slice(&container);
         self.length = at + width;
     }
 

@@ -20,7 +20,7 @@ use std::{io, result};
 /// A writer that is dropped publishes what was accepted, as [`WavWriter::finalize`] does, and its fault goes unseen:
 /// call `finalize` to see it.
 ///
-/// ```ignore
+/// ```text
 /// let mut writer = WavWriter::new(Tape::new(Vec::new(alloc)), spec)?;
 /// writer.write_sample(2i16)?;
 /// writer.flush()?; // A reader finds one sample now.
@@ -146,7 +146,7 @@ impl<W: Medium> WavWriter<W> {
     /// `UnfinishedSample`, if the samples are no whole number of frames, although all of them are published and the
     /// medium is flushed.
     ///
-    /// ```ignore
+    /// ```text
     /// let (tape, result) = writer.finalize_into();
     /// result?;
     /// Ok(tape.into_bytes())

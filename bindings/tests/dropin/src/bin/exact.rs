@@ -1,5 +1,5 @@
 //! Readers that give few bytes, fail, are interrupted or end, read by both crates: each call has the same answer and
-//! takes the same bytes; but after a closure that panics the reader may have given more of them.   exact COUNT
+//! takes the same bytes, also after a closure that panics.   exact COUNT
 use dropin::{both, Blocks, Chooser, Tally};
 use std::cell::Cell;
 use std::io::{self, BufReader, Cursor, Read};
@@ -33,7 +33,7 @@ impl Read for Unsteady {
     }
 }
 
-/// Whether closures panic in this history; it doesn't show then where the reader is.
+/// Whether closures panic in this history.
 fn panics(seed: u64) -> bool {
     seed % 4 == 1
 }
@@ -122,10 +122,9 @@ both! {
                 _ if is_float => call::<R, f32>(&mut reader, &mut chooser, panics),
                 _ => call::<R, i32>(&mut reader, &mut chooser, panics),
             };
-            let place = if panics { 0 } else { place() };
-            history += &format!("<{place} {}> ", reader.samples::<i32>().len());
+            history += &format!("<{} {}> ", place(), reader.samples::<i32>().len());
         }
-        history + &if panics { "end".into() } else { format!("end {}", end(reader.into_inner())) }
+        history + &format!("end {}", end(reader.into_inner()))
     }
 
     pub fn run(bytes: &[u8], seed: u64, reader: &str, path: &str) -> String {
@@ -148,7 +147,7 @@ both! {
             "&mut Cursor" => {
                 let mut cursor = Cursor::new(bytes);
                 let history = WavReader::new(&mut cursor).map_or_else(error, |it| history(it, seed, &|| 0, position));
-                history + &if panics(seed) { String::new() } else { cursor.position().to_string() }
+                history + &cursor.position().to_string()
             }
             "BufReader of few bytes" | "BufReader of faults" => {
                 let taken = |end: BufReader<Unsteady>| end.get_ref().place.get() - end.buffer().len();
@@ -164,7 +163,7 @@ both! {
                 let mut rest = bytes;
                 let history =
                     WavReader::new(&mut rest).map_or_else(error, |it| history(it, seed, &|| 0, |end| end.len()));
-                history + &if panics(seed) { String::new() } else { rest.len().to_string() }
+                history + &rest.len().to_string()
             }
         }
     }

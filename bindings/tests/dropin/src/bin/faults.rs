@@ -1,8 +1,9 @@
 //! A writer of which each call fails in turn, once or from there on, a write after half of its bytes: after an Ok
 //! `finalize` the original reads the accepted samples, exactly; after an error those of the last `flush` that was Ok,
-//! and maybe more of the accepted. The package keeps this; of the original it is counted. (An append that can't begin
-//! leaves the file as it was.) And writers that are full at each length: the package counts no fewer samples than the
-//! original, but for those of the block that had no room.   faults
+//! and maybe more of the accepted. The package keeps this; of the original it is counted. Where the header counts a part
+//! of a frame, which a later `flush` was to finish, the frames before it are read. (An append that can't begin leaves
+//! the file as it was.) And writers that are full at each length: the package counts no fewer samples than the original,
+//! but for those since the last `flush`.   faults
 use dropin::{both, Tally};
 use std::cell::RefCell;
 use std::collections::BTreeMap;
@@ -129,19 +130,34 @@ both! {
     }
 }
 
+/// What the original reads, of a file whose header counts no part of a frame, if it isn't `as_it_is`.
+fn read(file: &[u8], as_it_is: bool) -> Option<Vec<i32>> {
+    let (mut file, start) = (file.to_vec(), if file.get(16) == Some(&16) { 44 } else { 68 });
+    if !as_it_is && file.len() >= start {
+        let length = counted(&file, start) as u32;
+        let frame = u32::from(u16::from_le_bytes([file[32], file[33]]));
+        file[start - 4..start].copy_from_slice(&(length / frame * frame).to_le_bytes());
+    }
+    original::WavReader::new(&file[..]).ok().map(|mut reader| match reader.spec().sample_format {
+        original::SampleFormat::Int => reader.samples::<i32>().map_while(|sample| sample.ok()).collect(),
+        original::SampleFormat::Float => {
+            reader.samples::<f32>().map_while(|sample| sample.ok()).map(|sample| sample as i32).collect()
+        }
+    })
+}
+
 fn outcome(record: &Record, file: &[u8]) -> (bool, &'static str) {
-    let read: Option<Vec<i32>> =
-        original::WavReader::new(file).ok().map(|mut reader| match reader.spec().sample_format {
-            original::SampleFormat::Int => reader.samples::<i32>().map_while(|sample| sample.ok()).collect(),
-            original::SampleFormat::Float => {
-                reader.samples::<f32>().map_while(|sample| sample.ok()).map(|sample| sample as i32).collect()
-            }
-        });
-    match (record.ended, read) {
+    match (record.ended, read(file, true)) {
         (true, None) => (false, "Ok, unreadable"),
         (true, Some(read)) if read == record.accepted => (true, "Ok, exactly the accepted samples"),
         (true, Some(_)) => (false, "Ok, OTHER samples"),
-        (false, None) => (record.flushed == 0, "an error, unreadable"),
+        (false, None) if record.flushed == 0 => (true, "an error, unreadable, and nothing was flushed"),
+        (false, None) => match read(file, false) {
+            Some(read) if read.len() >= record.flushed && record.accepted.starts_with(&read) => {
+                (true, "an error, at least the flushed samples, and a part of a frame")
+            }
+            _ => (false, "an error, unreadable"),
+        },
         (false, Some(read)) if read.len() >= record.flushed && record.accepted.starts_with(&read) => {
             (true, "an error, at least the flushed samples")
         }
@@ -153,9 +169,6 @@ fn outcome(record: &Record, file: &[u8]) -> (bool, &'static str) {
 fn counted(file: &[u8], start: usize) -> usize {
     file.get(start - 4..start).map_or(0, |length| u32::from_le_bytes(length.try_into().unwrap()) as usize)
 }
-
-// How many samples of this plan are written at once, at most.
-const BUFFERED: usize = 128;
 
 fn full(tally: &mut Tally) {
     for (bits, is_float) in [(8, false), (16, false), (24, false), (32, false), (32, true)] {
@@ -171,8 +184,8 @@ fn full(tally: &mut Tally) {
                 });
             if package >= original {
                 tally.same();
-            } else if package >= flushed && package + BUFFERED * width > original {
-                tally.listed("a full file: the block that had no room isn't counted");
+            } else if package >= flushed {
+                tally.listed("a full file: what came after the last flush isn't counted");
             } else {
                 tally
                     .unexplained(|| format!("{bits} bits {is_float}, full at {room}: {original} bytes, and {package}"));

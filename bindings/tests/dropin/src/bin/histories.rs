@@ -95,9 +95,9 @@ both! {
         result.map_or_else(|error| format!("[{error}] "), |()| "Ok ".into())
     }
 
-    /// What the calls return, and the file. Where no torn frame is stored, a flush within one is passed over, and it is
-    /// taken out of the file in the end.
-    pub fn write(seed: u64, stores_torn: bool) -> (String, Vec<u8>) {
+    /// What the calls return, and the file. After a flush within a frame the original writes to a wrong place: so such a
+    /// flush may be passed over.
+    pub fn write(seed: u64, flushes_torn: bool) -> (String, Vec<u8>) {
         let mut chooser = Chooser::new(seed);
         let (bits, width, sample_format) = chooser.one_of(&[
             (8, 1, SampleFormat::Int),
@@ -132,7 +132,9 @@ both! {
                     1 => shown(writer.write_sample(sample as i16)),
                     2 => shown(writer.write_sample(sample as f32)),
                     3 => shown(writer.write_sample(Own(sample as i16))),
-                    4 if !stores_torn && writer.len() % u32::from(channels) != 0 => shown(Err(Error::UnfinishedSample)),
+                    4 if !flushes_torn && writer.len() % u32::from(channels) != 0 => {
+                        shown(Err(Error::UnfinishedSample))
+                    }
                     4 => shown(writer.flush()),
                     5 if bits == 16 => {
                         let count = chooser.below(5) as u32;
@@ -152,9 +154,6 @@ both! {
             } else {
                 drop(writer);
             }
-            if !stores_torn {
-                without_torn_frame(file.get_mut(), usize::from(channels * width));
-            }
         }
         (answers, file.into_inner())
     }
@@ -162,15 +161,6 @@ both! {
 
 fn u32_at(bytes: &[u8], at: usize) -> u32 {
     u32::from_le_bytes(bytes[at..at + 4].try_into().unwrap())
-}
-
-/// Takes a torn frame at the end out of a file.
-fn without_torn_frame(file: &mut Vec<u8>, frame: usize) {
-    let start = if file[16] == 16 { 44 } else { 68 };
-    let length = u32_at(file, start - 4) as usize / frame * frame;
-    file.truncate(start + length);
-    file[4..8].copy_from_slice(&((start - 8 + length) as u32).to_le_bytes());
-    file[start - 4..start].copy_from_slice(&(length as u32).to_le_bytes());
 }
 
 /// A file of chunks, most of them right, and some of its bytes changed.
@@ -302,7 +292,7 @@ fn main() {
     for _ in 0..count {
         let seed = chooser.next();
         let package = or_panic(|| by_package::write(seed, true));
-        let by_original = |stores_torn| or_panic(|| by_original::write(seed, stores_torn));
+        let by_original = |flushes_torn| or_panic(|| by_original::write(seed, flushes_torn));
         let padded = |made: Option<(String, Vec<u8>)>| made.map(|(answers, file)| (answers, with_pad_byte(file)));
         if package.is_none() {
             tally.unexplained(|| format!("the package panics at writing, seed {seed}"));
@@ -311,7 +301,7 @@ fn main() {
         } else if package == padded(by_original(true)) {
             tally.listed("the pad byte after odd data");
         } else if package == padded(by_original(false)) {
-            tally.listed("an unfinished frame isn't stored, and a flush there continues");
+            tally.listed("after a flush within a frame the next sample follows the others");
         } else if package == by_original(true).map(|(answers, _)| (answers, Vec::new())) {
             tally.listed("a spec that can't be written: nothing is");
         } else {

@@ -1,0 +1,87 @@
+//! Files that no other program records to, appends to or repairs.
+use std::{fs, io, path};
+
+/// Opens the file at a path, which no other program that locks it records to, appends to or repairs.
+pub(crate) fn open_locked(options: &fs::OpenOptions, filename: &path::Path) -> io::Result<fs::File> {
+    // Where another file was renamed to the path before the lock, that one is opened. Some systems number a file anew
+    // each time, so that none seems to be at its path: the last attempt believes that it is.
+    for attempts_left in (0..10).rev() {
+        let file = options.open(filename)?;
+        lock(&file)?;
+        if attempts_left == 0 || is_at(&file, filename)? {
+            return Ok(file);
+        }
+    }
+    unreachable!("the last attempt returns")
+}
+
+#[cfg(unix)]
+fn is_at(file: &fs::File, filename: &path::Path) -> io::Result<bool> {
+    use std::os::unix::fs::MetadataExt;
+    let (opened, found) = (file.metadata()?, fs::metadata(filename));
+    Ok(found.map_or(false, |found| (found.dev(), found.ino()) == (opened.dev(), opened.ino())))
+}
+
+// Elsewhere a file has no number that std knows.
+#[cfg(not(unix))]
+fn is_at(_: &fs::File, _: &path::Path) -> io::Result<bool> {
+    Ok(true)
+}
+
+/// Locks a file that is open until it is closed, without waiting: where another program has locked it, or this one has
+/// opened and locked it before, the error is `WouldBlock`. A file system without locks is no error, and neither is
+/// another system than Unix and Windows.
+fn lock(file: &fs::File) -> io::Result<()> {
+    match lock_by_system(file) {
+        Err(error) if error.kind() == io::ErrorKind::WouldBlock => {
+            Err(io::Error::new(error.kind(), "another program records to, appends to or repairs this file"))
+        }
+        _ => Ok(()),
+    }
+}
+
+#[cfg(unix)]
+#[allow(unsafe_code)]
+fn lock_by_system(file: &fs::File) -> io::Result<()> {
+    use std::os::{raw::c_int, unix::io::AsRawFd};
+    extern "C" {
+        fn flock(file: c_int, operation: c_int) -> c_int;
+    }
+    const EXCLUSIVE: c_int = 2;
+    const WITHOUT_WAITING: c_int = 4;
+    // SAFETY: the file is open, and no pointer is passed.
+    match unsafe { flock(file.as_raw_fd(), EXCLUSIVE | WITHOUT_WAITING) } {
+        0 => Ok(()),
+        _ => Err(io::Error::last_os_error()),
+    }
+}
+
+// Locks one byte that no file has, since others can't read what is locked.
+#[cfg(windows)]
+#[allow(unsafe_code)]
+fn lock_by_system(file: &fs::File) -> io::Result<()> {
+    use std::os::windows::io::{AsRawHandle, RawHandle};
+    #[repr(C)]
+    struct Overlapped {
+        unused: [usize; 2],
+        place: u64,
+        event: usize,
+    }
+    extern "system" {
+        fn LockFileEx(file: RawHandle, flags: u32, zero: u32, low: u32, high: u32, place: &mut Overlapped) -> i32;
+    }
+    const EXCLUSIVE_WITHOUT_WAITING: u32 = 3;
+    const IS_LOCKED: i32 = 33;
+    let mut place = Overlapped { unused: [0; 2], place: 1 << 62, event: 0 };
+    // SAFETY: the file is open, and without waiting nothing of the call is kept.
+    match unsafe { LockFileEx(file.as_raw_handle(), EXCLUSIVE_WITHOUT_WAITING, 0, 1, 0, &mut place) } {
+        0 if io::Error::last_os_error().raw_os_error() == Some(IS_LOCKED) => Err(io::ErrorKind::WouldBlock.into()),
+        0 => Err(io::Error::last_os_error()),
+        _ => Ok(()),
+    }
+}
+
+#[cfg(not(any(unix, windows)))]
+fn lock_by_system(_: &fs::File) -> io::Result<()> {
+    Ok(())
+}

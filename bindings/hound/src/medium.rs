@@ -1,0 +1,190 @@
+//! What the proved code reads from and writes into: any reader, and any writer, of the user's.
+use crate::proved::durable::Durable;
+use crate::proved::medium::{Medium, Placed, Source};
+use std::any::Any;
+use std::fs::File;
+use std::io::{self, ErrorKind, Read, Seek, SeekFrom, Write};
+use std::panic::{self, AssertUnwindSafe};
+use std::sync::{Mutex, PoisonError};
+
+/// A reader. Where it claims more bytes than it had room for, it has given as many as that.
+pub struct Input<R>(pub(crate) R);
+
+impl<R: Read> Read for Input<R> {
+    #[inline(always)]
+    fn read(&mut self, bytes: &mut [u8]) -> io::Result<usize> {
+        let most = bytes.len();
+        self.0.read(bytes).map(|count| count.min(most))
+    }
+}
+
+impl<R: Seek> Placed for Input<R> {
+    fn go(&mut self, to: u64) -> io::Result<()> {
+        self.0.seek(SeekFrom::Start(to)).map(drop)
+    }
+
+    fn shift(&mut self, by: i64) -> io::Result<()> {
+        self.0.seek(SeekFrom::Current(by)).map(drop)
+    }
+}
+
+impl<R: Read + Seek> Source for Input<R> {
+    #[inline]
+    fn get(&mut self, bytes: &mut [u8]) -> io::Result<usize> {
+        self.read(bytes)
+    }
+}
+
+/// A writer, or a file whose flush returns once the disk has what was written.
+///
+/// The proved code doesn't know of panics. So where the writer panics, its call has failed for that code, and the panic
+/// goes on once it has returned ([`resume`](Output::resume)). A writer that claims more bytes than it was given took
+/// these, one that takes none is full, and a write that was interrupted is repeated, as by `write_all`.
+pub struct Output<W> {
+    inner: W,
+    panic: Option<Mutex<Box<dyn Any + Send>>>, // It is `Sync`, and nobody locks it.
+    disk: Option<File>,                        // The same file, which a flush syncs.
+    sync_has_failed: bool,
+    place: u64,
+    has_gone_back: bool,
+    // Whether it writes where it has gone back to, if that was looked at: a file with `O_APPEND` doesn't.
+    writes_there: Option<bool>,
+}
+
+impl<W> Output<W> {
+    pub(crate) fn new(inner: W) -> Output<W> {
+        Output {
+            inner,
+            panic: None,
+            disk: None,
+            sync_has_failed: false,
+            place: 0,
+            has_gone_back: false,
+            writes_there: None,
+        }
+    }
+
+    /// A writer over a file of this crate's own, which is given once more where its flushes are syncs.
+    pub(crate) fn of_file(inner: W, disk: Option<File>) -> Output<W> {
+        Output { disk, writes_there: Some(true), ..Output::new(inner) }
+    }
+
+    fn call<A>(&mut self, call: impl FnOnce(&mut W) -> io::Result<A>) -> io::Result<A> {
+        let inner = &mut self.inner;
+        panic::catch_unwind(AssertUnwindSafe(|| call(inner))).unwrap_or_else(|payload| {
+            self.panic = Some(Mutex::new(payload));
+            Err(ErrorKind::Other.into())
+        })
+    }
+
+    /// Lets the panic of a call go on.
+    pub(crate) fn resume(&mut self) {
+        if let Some(payload) = self.panic.take() {
+            panic::resume_unwind(payload.into_inner().unwrap_or_else(PoisonError::into_inner))
+        }
+    }
+
+    // Returns once the disk has what it was given, if this is to. After a failed sync another one would succeed, though
+    // the system may have dropped what it couldn't store.
+    fn sync(&mut self) -> io::Result<()> {
+        if self.sync_has_failed {
+            return Err(io::Error::new(ErrorKind::Other, "an earlier sync of the file failed"));
+        }
+        let result = self.disk.as_ref().map_or(Ok(()), File::sync_data);
+        self.sync_has_failed = result.is_err();
+        result
+    }
+}
+
+impl<W: Seek> Output<W> {
+    // Looks once whether the writer is where it has written to. One that doesn't say where it is is believed.
+    fn check_place(&mut self) -> io::Result<()> {
+        if self.has_gone_back && self.writes_there.is_none() {
+            let place = self.call(|inner| inner.stream_position());
+            self.writes_there = Some(place.map_or(true, |place| place == self.place));
+        }
+        let text = "the file takes all bytes at its end, and no sizes into its header: open it without `append`";
+        match self.writes_there {
+            Some(false) => Err(io::Error::new(ErrorKind::InvalidInput, text)),
+            _ => Ok(()),
+        }
+    }
+}
+
+impl<W: Seek> Placed for Output<W> {
+    fn go(&mut self, to: u64) -> io::Result<()> {
+        self.call(|inner| inner.seek(SeekFrom::Start(to)).map(drop))?;
+        self.has_gone_back = self.has_gone_back || to < self.place;
+        self.place = to;
+        Ok(())
+    }
+
+    fn shift(&mut self, by: i64) -> io::Result<()> {
+        self.go(crate::rattle::checked_add_signed(self.place, by).ok_or(ErrorKind::InvalidInput)?)
+    }
+}
+
+impl<W: Write + Seek> Medium for Output<W> {
+    fn put(&mut self, bytes: &[u8]) -> io::Result<usize> {
+        if self.writes_there == Some(false) {
+            self.check_place()?;
+        }
+        let count = self.call(|inner| loop {
+            match inner.write(bytes) {
+                Ok(0) => return Err(io::Error::new(ErrorKind::WriteZero, "failed to write whole buffer")),
+                Ok(count) => return Ok(count.min(bytes.len())),
+                Err(error) if error.kind() == ErrorKind::Interrupted => {}
+                Err(error) => return Err(error),
+            }
+        })?;
+        self.place += count as u64;
+        self.check_place().map(|()| count)
+    }
+
+    fn flush(&mut self) -> io::Result<()> {
+        self.call(|inner| inner.flush())?;
+        self.sync()
+    }
+}
+
+/// What a file is written to: a writer as it is, or one that is synced before each step back.
+pub enum Target<W: Write + Seek> {
+    Plain(Output<W>),
+    Durable(Durable<Output<W>>),
+}
+
+impl<W: Write + Seek> Target<W> {
+    fn medium(&mut self) -> &mut dyn Medium {
+        match self {
+            Target::Plain(output) => output,
+            Target::Durable(output) => output,
+        }
+    }
+
+    pub(crate) fn resume(&mut self) {
+        match self {
+            Target::Plain(output) => output.resume(),
+            Target::Durable(_) => {} // A file doesn't panic.
+        }
+    }
+}
+
+impl<W: Write + Seek> Placed for Target<W> {
+    fn go(&mut self, to: u64) -> io::Result<()> {
+        self.medium().go(to)
+    }
+
+    fn shift(&mut self, by: i64) -> io::Result<()> {
+        self.medium().shift(by)
+    }
+}
+
+impl<W: Write + Seek> Medium for Target<W> {
+    fn put(&mut self, bytes: &[u8]) -> io::Result<usize> {
+        self.medium().put(bytes)
+    }
+
+    fn flush(&mut self) -> io::Result<()> {
+        self.medium().flush()
+    }
+}
