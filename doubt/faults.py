@@ -4,7 +4,7 @@ loss of power may leave, and looks at the file after each: no sample that was pu
 and none is counted that wasn't accepted. The recorders are the example `record`, bindings/c/record.c
 and the example of bindings/hound, which also records frames of other shapes, and wrong versions of the
 last two have to be found. On a disk that is full for a while each has to continue once there is room,
-with all samples that it accepted. Of a block that was rejected nothing stays in a file of the last. Then
+with all samples that it accepted. Then
 bindings/tests/python_faults.py does so with programs that use the Python package, and bindings/tests/parts.py
 with recorders that continue in a next file.
 
@@ -80,54 +80,37 @@ WRONG_IN_C = {
     ),
     "wrong C (sizes that aren't synced)": (SYNC_IN_C, SYNC_BUT_IN_C.format(3)),
 }
-SYNC, WRITTEN = "(self.sync)(&mut self.writer)", "Ok(self.recorder.run(&mut self.target, &self.bytes[..length])??)"
+SYNC = "|(disk, sync)| sync(disk)"
 # Of a checkpoint's two syncs, that after the samples is the first.
 SYNC_ONE = (
-    "static SYNCS: std::sync::atomic::AtomicUsize = std::sync::atomic::AtomicUsize::new(0); "
-    "if SYNCS.fetch_add(1, std::sync::atomic::Ordering::Relaxed) % 2 == {} {{ " + SYNC + " }} else {{ Ok(()) }}"
+    "|(disk, sync)| { static SYNCS: std::sync::atomic::AtomicUsize = std::sync::atomic::AtomicUsize::new(0); "
+    "if SYNCS.fetch_add(1, std::sync::atomic::Ordering::Relaxed) % 2 == WHICH { sync(disk) } else { Ok(()) } }"
 )
-# The sizes count a block that is reported as done, and is written after that.
+# The sizes count a block that is written after that.
+PUT_BLOCK = "        self.put_block()?;\n        self.put_pad()?;"
 BEFORE_IT = (
-    "if let proved::Next::Effect(effect) = self.recorder.next()? { let place = effect.place(); effect.done(); "
-    "self.checkpoint()?; proved::Medium::write_at(&mut self.target, place, &self.bytes[..length])?; } Ok(())"
+    "let more = self.block.len() as u32; self.data_bytes_written += more; self.publish(true)?; "
+    "self.data_bytes_written -= more; self.may_have_moved = true;\n" + PUT_BLOCK
 )
-ONLY_SYNC = "|writer| writer.get_ref().sync_data()"
-BUFFERED = (
-    "BufWriter::with_capacity(0, file)",
-    "BufWriter::with_capacity(1 << 16, file)",
-    "target.write_at = Target::write_without_seek;",
-    "let _ = Target::write_without_seek;",
-)
+BUFFERED = ("io::BufWriter::with_capacity(0, file)", "io::BufWriter::with_capacity(1 << 16, file)")
+FLUSH = "self.call(|inner| inner.flush())?;"
 WRONG_IN_CARGO = {
-    "wrong Cargo (no sync)": (ONLY_SYNC, "|_| Ok(())"),
-    "wrong Cargo (a header that isn't synced)": ("file.sync_data()?;", ""),
-    "wrong Cargo (buffered bytes that aren't synced)": BUFFERED,
-    "wrong Cargo (sizes before the samples are synced)": (SYNC, SYNC_ONE.format(1)),
-    "wrong Cargo (sizes before the samples)": (WRITTEN, BEFORE_IT),
-    "wrong Cargo (sizes that aren't synced)": (SYNC, SYNC_ONE.format(0)),
-    "wrong Cargo (appends to a file that isn't synced)": ("    file.sync_all()?;\n", ""),
+    "wrong Cargo (no sync)": ("fs::File::sync_data as SyncBy", "(|_| Ok(())) as SyncBy"),
+    "wrong Cargo (a header that isn't synced)": ("        writer.flush()?;\n        Ok(writer)", "        Ok(writer)"),
+    "wrong Cargo (buffered bytes that aren't synced)": (*BUFFERED, FLUSH, ""),
+    "wrong Cargo (sizes before the samples are synced)": (SYNC, SYNC_ONE.replace("WHICH", "1")),
+    "wrong Cargo (sizes before the samples)": (PUT_BLOCK, BEFORE_IT),
+    "wrong Cargo (sizes that aren't synced)": (SYNC, SYNC_ONE.replace("WHICH", "0")),
+    "wrong Cargo (appends to a file that isn't synced)": ("        file.sync_all()?;\n", ""),
 }
 WRONG = {**WRONG_IN_C, **WRONG_IN_CARGO}
-# A wrong version that a full disk ends for good: a sync writes out what is buffered, and fails where that does.
+# A wrong version that a full disk ends for good: what is buffered is written out by a sync, and fails as one.
 ENDED = "wrong Cargo (a write that fails as a sync)"
-# One that leaves what it rejected there, and one that publishes torn frames.
-LEFT, TORN = "wrong Cargo (a block that failed stays)", "wrong Cargo (torn frames)"
 WRONG_ON_FULL_DISKS = {
-    ENDED: (*BUFFERED, ONLY_SYNC, "|writer| writer.flush().and_then(|()| writer.get_ref().sync_data())"),
-    LEFT: ("proved::Medium::cut(writer.get_mut(), place)", "{ let _ = (writer, place); Ok(()) }"),
-}
-BEGUN = "let mut recorder = Recorder::begin("
-WRONG_IN_FRAMES = {
-    TORN: (
-        "let whole = length - length % self.frame;",
-        "let whole = length;",
-        BEGUN + "&spec)?;",
-        BEGUN + "&proved::Spec { channels: 1, ..spec })?;",
-    )
+    ENDED: (*BUFFERED, FLUSH, "self.sync_has_failed = self.sync_has_failed || self.call(|inner| inner.flush()).is_err();"),
 }
 WORDS.update({what: ["--durable", "--overwrite"] for what in WRONG_IN_C})
-WORDS.update({what: ["durable"] + ["append"] * ("appends" in what) for what in (*WRONG_IN_CARGO, ENDED, LEFT, TORN)})
-SHAPES[TORN] = Shape(2, 16)
+WORDS.update({what: ["durable"] + ["append"] * ("appends" in what) for what in (*WRONG_IN_CARGO, ENDED)})
 SYNCS = ("fsync", "fdatasync")
 WRITES = ("write", "pwrite64")
 
@@ -546,24 +529,14 @@ def small_disk(folder):
         subprocess.run(["umount", disk])
 
 
-def left_over(path, output, shape):
-    """How many bytes follow the samples that a recorder accepted, and a pad byte."""
-    recorded = recorded_in(output, shape)
-    if not os.path.exists(path) or recorded is None:
-        return 0
-    length = recorded * width_of(shape)
-    return max(0, os.path.getsize(path) - header_of(shape) - length - length % 2)
-
-
 def fill(folder, kind):
-    """Records on a disk that fills up, and beyond the largest length of a file; counts the runs. Of what was rejected
-    nothing stays in the file."""
+    """Records on a disk that fills up, and beyond the largest length of a file; counts the runs."""
 
     def limited():
         signal.signal(signal.SIGXFSZ, signal.SIG_IGN)
         resource.setrlimit(resource.RLIMIT_FSIZE, (limit, limit))
 
-    runs = left = 0
+    runs = 0
     path, shape = os.path.join(folder, "long.wav"), shape_of(kind)
     length = 100 if kind.split()[0] == PLAIN else 1000  # A sync takes its time.
     # In the last run the last half of the last lot, a block of more than is buffered, has no room.
@@ -580,7 +553,6 @@ def fill(folder, kind):
                 preexec_fn=limited,
             )
         look(path, ran.stdout, 0, count, f"limit {limit}", shape)
-        left += left_over(path, ran.stdout, shape)
         if ran.returncode != 1:
             fail(f"limit {limit}: no fault")
         os.remove(path)
@@ -594,13 +566,10 @@ def fill(folder, kind):
                     command(folder, path, length, kind), stdin=file, stdout=subprocess.PIPE, stderr=subprocess.DEVNULL
                 )
             look(path, ran.stdout, 0, 90000, f"full disk, lots of {length}", shape)
-            left += left_over(path, ran.stdout, shape)
             if ran.returncode != 1:
                 fail("the disk was not full")
             os.remove(path)
             runs += 1
-    if "Cargo" in kind and (left > 0) != (kind == LEFT):
-        fail(f"{left} bytes that the {kind} recorder rejected stay in the files")
     print(f"the {kind} recorder, a disk that fills up: {runs - 8} runs", flush=True)
     return runs
 
@@ -740,12 +709,10 @@ def compile_in_c(folder):
 def compile_in_rust(folder):
     """Compiles the example of bindings/hound, and the same over wrong versions of its writer."""
     copy = os.path.join(folder, "bindings")
-    for part in "hound", "rust", "lib":
-        shutil.copytree(
-            os.path.join(HERE, "bindings", part), os.path.join(copy, part), ignore=shutil.ignore_patterns("target")
-        )
-    paths = ["bindings/hound/src/writer.rs", "bindings/hound/src/target.rs"]
-    for name, texts in versions(paths, "recordCargo", {**WRONG_IN_CARGO, **WRONG_ON_FULL_DISKS, **WRONG_IN_FRAMES}):
+    hound = os.path.join(HERE, "bindings", "hound")
+    shutil.copytree(hound, os.path.join(copy, "hound"), ignore=shutil.ignore_patterns("target"))
+    paths = [f"bindings/hound/src/{name}.rs" for name in ("writer", "medium", "proved/writer/output")]
+    for name, texts in versions(paths, "recordCargo", {**WRONG_IN_CARGO, **WRONG_ON_FULL_DISKS}):
         for path, text in texts.items():
             with open(os.path.join(folder, path), "w") as file:
                 file.write(text)
@@ -755,15 +722,6 @@ def compile_in_rust(folder):
             check=True,
         )
         os.rename(os.path.join(copy, "debug", "examples", "record"), os.path.join(folder, name))
-
-
-def is_found(run, folder, *words):
-    """Whether a run of a wrong version fails."""
-    try:
-        run(folder, *words)
-    except SystemExit:
-        return True
-    return False
 
 
 def build():
@@ -796,11 +754,9 @@ def main():
             runs += kill(folder, count, kind) + kill(folder, count // 10, kind.replace(PLAIN, DURABLE))
         for kind in IN_C.values():
             runs += inject(folder, kind, ["openat", "pwrite64", "fsync"])
-        shaped = [kind for kind in SHAPES if kind != TORN]
+        shaped = list(SHAPES)
         for kind in shaped:
             runs += kill(folder, count // 10, kind) if DURABLE in kind else 0
-        if not is_found(kill, folder, 50, TORN):
-            fail(f"{TORN} isn't found")
         for kind in *IN_CARGO.values(), UNSYNCED, REPAIRING, *shaped:
             is_durable, appends = "durable" in WORDS[kind], "append" in WORDS[kind]
             names = ["openat", "write", "pwrite64"] + ["lseek", "read"] * appends + ["fsync", "fdatasync"] * is_durable
@@ -814,7 +770,6 @@ def main():
         wide = shaped[-1]
         runs += fill(folder, wide) + recover(folder, wide)
         recover(folder, ENDED)
-        fill(folder, LEFT)
         runs += repaired(folder)
         for kind in (
             DURABLE,

@@ -43,7 +43,8 @@ REPLACEMENTS = [
     # A float of Rattle has one NaN, so that a sample is the number of its bits. In Rust it is the float itself.
     Allowed("sample/float.rt", 1, "#[repr(C)] #[derive(Clone, Copy, Debug, PartialEq, Eq)] pub struct FloatBits(pub u32);",
             "pub type FloatBits = f32;", "A float of Rust has each pattern."),
-    Allowed("sample/float.rt", 1, "FloatBits(u32_at(container, 0))", "f32::from_bits(u32_at(container, 0))", "As above."),
+    Allowed("sample/float.rt", 1, "FloatBits(u32_at(container, 0))", "f32::from_bits(u32_at(container, 0))",
+            "As above."),
     Allowed("sample/float.rt", 1, "le_u32(self.0)", "le_u32(self.to_bits())", "As above."),
     Allowed("sample/float.rt", 1, "use std::num::{f32_from_bits_with_nan, f32_to_bits_with_nan};", "", "As above."),
     Allowed("sample/float.rt", 1, "impl From<f32> for FloatBits {…}", "", "As above."),

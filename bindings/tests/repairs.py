@@ -27,7 +27,7 @@ from wav import with_riff
 
 HEADER = 44
 IN_CARGO, IS_SHORT = (word in sys.argv[1:] for word in ("cargo", "short"))
-SOURCE = "rust/src/machines.rs" if IN_CARGO else "c/repair.c"
+SOURCES = ["hound/src/medium.rs", "hound/src/repair.rs"] if IN_CARGO else ["c/repair.c"]
 # A file of 8 bits and one channel that was cut off, with no pad byte after its 1,099 samples, of which 100 are counted.
 CUT_OFF = head(CASES[1], 100) + STREAM[:1099]
 WHOLE, FOLLOWED = file_of(CASES[1], 1099), file_of(CASES[1], 1099, LIST)
@@ -94,41 +94,34 @@ WRONG = {
     "no lock": ("flock(descriptor, LOCK_EX | LOCK_NB)", "0"),
 }
 if IN_CARGO:
-    SYNC, REPORT = "medium.sync()", "Err(_) => self.failed(),"
-    WRITE = "Kind::Write => write_at(medium, place, self.bytes()),"
-    BEGIN = "hound_repairer_begin(length, mode as u32,"
-    WRITTEN = "Err(io::ErrorKind::WriteZero.into()),\n            Ok(more) => count += more,\n"
-    INTERRUPTED = "            Err(error) if error.kind() == io::ErrorKind::Interrupted => {}\n"
-    READ = "            Err(error) => return Err(error),\n        }\n    }\n    Ok(count)"
+    SYNC, WRITTEN, READ = "sync(disk)", "Ok(count) => return Ok(count.min(bytes.len())),", "self.0.read(bytes)"
+    INTERRUPTED = "Err(error) if error.kind() == ErrorKind::Interrupted => {}\n"
+    MEND, TO_END = "repair_by(Task::Repair, filename", "repair_by(Task::RepairToEnd, filename"
     WRONG = {
-        "no sync": (SYNC, "Ok(())"),
+        "no sync": ("|(disk, sync)| sync(disk)", "|_| Ok(())"),
         "a sync that fails is ignored": (SYNC, SYNC + ".or(Ok(()))"),
-        "a write that fails is ignored": (
-            REPORT,
-            REPORT.replace("Err(_)", "Err(_) if self.kind() == Kind::Read") + " Err(_) => self.done(),",
-        ),
-        "a write that is left out": (WRITE, "Kind::Write => Ok(()),"),
-        "a write at another place": (WRITE, WRITE.replace("place", "place + 1")),
-        "a file is only looked at": (BEGIN, BEGIN.replace("mode as u32", "mode as u32 * 0")),
-        "repair_file_to_end without an effect": (BEGIN, BEGIN.replace("mode as u32", "mode as u32 * 0 + 1")),
-        "a file with chunks after the data is written": (BEGIN, BEGIN.replace("mode as u32", "mode as u32 * 0 + 2")),
-        "a length that isn't the file's": (BEGIN, BEGIN.replace("length", "length + 1")),
-        "a short write isn't continued": (WRITTEN, WRITTEN.replace("count += more", "{ count += more; break }")),
-        "an interrupted write isn't continued": (WRITTEN + INTERRUPTED, WRITTEN),
-        "a read that fails is ignored": (READ, READ.replace("Err(error) => return Err(error)", "Err(_) => break")),
+        "a write that fails is ignored": ("Err(error) => return Err(error),", "Err(_) => return Ok(bytes.len()),"),
+        "a write that is left out": ("match inner.write(bytes) {", "match inner.write(&bytes[..0]).map(|_| 9) {"),
+        "a write at another place": ("inner.seek(SeekFrom::Start(to))", "inner.seek(SeekFrom::Start(to + 1))"),
+        "a file is only looked at": (MEND, MEND.replace("Repair", "FindDamage")),
+        "repair_file_to_end without an effect": (TO_END, MEND),
+        "a file with chunks after the data is written": (MEND, TO_END),
+        "a short write isn't continued": (WRITTEN, "Ok(_) => return Ok(bytes.len()),"),
+        "an interrupted write isn't continued": (INTERRUPTED, ""),
+        "a read that fails is ignored": (READ, READ + ".or(Ok(0))"),
     }
 
 
 def compiled(folder, text):
-    """The program of this text, with the library that the packages take."""
+    """The program of this text, which is that of all sources; in C with the library that the packages take."""
     if IN_CARGO:
-        copy = os.path.join(folder, "bindings")
-        for part in "hound", "rust", "lib":
-            ignored = shutil.ignore_patterns("target")
-            source, target = os.path.join(TOP, "bindings", part), os.path.join(copy, part)
-            shutil.copytree(source, target, ignore=ignored, dirs_exist_ok=True)
-        with open(os.path.join(copy, SOURCE), "w") as file:
-            file.write(text)
+        copy, ignored = os.path.join(folder, "bindings"), shutil.ignore_patterns("target")
+        shutil.copytree(
+            os.path.join(TOP, "bindings", "hound"), os.path.join(copy, "hound"), ignore=ignored, dirs_exist_ok=True
+        )
+        for source, part in zip(SOURCES, text.split("\0")):
+            with open(os.path.join(copy, source), "w") as file:
+                file.write(part)
         words = ["cargo", "build", "-q", "--offline", "--example", "repair", "--target-dir", copy]
         subprocess.run(words, cwd=os.path.join(copy, "hound"), check=True)
         return os.path.join(copy, "debug", "examples", "repair")
@@ -451,7 +444,7 @@ def all_checks(program, path):
 
 
 def main():
-    text = contents_of(os.path.join(TOP, "bindings", SOURCE)).decode()
+    text = "\0".join(contents_of(os.path.join(TOP, "bindings", source)).decode() for source in SOURCES)
     performing = contents_of(os.path.join(TOP, "bindings", "c", "hound_file.h")).decode()
     text = text.replace('#include "hound_file.h"\n', performing)
     # A sync costs nothing there.
@@ -464,7 +457,7 @@ def main():
             print("repairs: the same with reports that are lost", flush=True)
         for what, (part, other) in WRONG.items():
             if text.count(part) != 1:
-                sys.exit(f"repairs: {SOURCE} has another part than {part}")
+                sys.exit(f"repairs: {SOURCES} have another part than {part}")
             program = compiled(folder, text.replace(part, other))
             try:
                 quick_checks(program, path, 60)

@@ -1,12 +1,12 @@
-//! Records the samples of standard input, which are integers as a WAV file has them, little-endian. After every so many
-//! a checkpoint makes the file's header count all whole frames, and prints how many samples these are. After an error
-//! the program continues, and prints how many samples were lost. With `append` it repairs the file, where a recording
+//! Records the frames of standard input, whose samples are integers as a WAV file has them, little-endian. After every
+//! so many samples, rounded up to whole frames, a checkpoint makes the file's header count all, and prints how many
+//! these are. After an error the program continues, and prints how many samples were lost. With `append` it repairs the file, where a recording
 //! was cut off, and continues after all that it holds; without it an existing file is emptied. With `durable` the
 //! checkpoints survive a loss of power.
 //!
 //!     arecord -t raw -f S16_LE -c 2 -r 44100 | record FILE 44100 2 16 SAMPLES [append] [durable]
 use hound::blocks::WriteSamples;
-use hound::{Error, RepairState, Sample, SampleFormat, WavSpec, WavWriter};
+use hound::{RepairState, Sample, SampleFormat, WavSpec, WavWriter};
 use std::io::{self, Read};
 use std::{env, process};
 
@@ -52,31 +52,32 @@ fn main() -> hound::Result<()> {
         (true, true) => WavWriter::append_durable(&words[1])?,
     };
 
-    let (mut errors, width) = (0, usize::from(spec.bits_per_sample / 8));
+    let (mut errors, width, channels) = (0, usize::from(spec.bits_per_sample / 8), usize::from(spec.channels));
+    let most = (every as usize + channels - 1) / channels * channels * width;
     loop {
         let mut bytes = Vec::new();
-        if io::stdin().lock().take(u64::from(every) * width as u64).read_to_end(&mut bytes)? < width {
+        if io::stdin().lock().take(most as u64).read_to_end(&mut bytes)? < channels * width {
             break;
         }
         let integer = |mut container| {
             i32::read(&mut container, spec.sample_format, spec.bits_per_sample / 8, spec.bits_per_sample)
         };
-        let samples = bytes.chunks_exact(width).map(integer).collect::<hound::Result<Vec<_>>>()?;
-        // Half of them one by one, and the others, all or none, at once.
-        let (single, block) = samples.split_at(samples.len() / 2);
-        for sample in single {
-            if writer.write_sample(*sample).is_err() {
-                println!("lost 1 samples after {}", writer.len());
+        let frames = bytes.chunks_exact(channels * width).flat_map(|frame| frame.chunks(width));
+        let samples = frames.map(integer).collect::<hound::Result<Vec<_>>>()?;
+        // Half of the frames one by one, and the others at once: all or none, so that an error tears no frame.
+        let (single, block) = samples.split_at(samples.len() / channels / 2 * channels);
+        for frame in single.chunks(channels).chain([block]) {
+            let result = match frame {
+                [sample] => writer.write_sample(*sample),
+                frame => writer.write_samples(frame),
+            };
+            if result.is_err() {
+                println!("lost {} samples after {}", frame.len(), writer.len());
                 errors += 1;
             }
         }
-        if writer.write_samples(block).is_err() {
-            println!("lost {} samples after {}", block.len(), writer.len());
-            errors += 1;
-        }
         match writer.flush() {
             Ok(()) => println!("{}", writer.len()),
-            Err(Error::UnfinishedSample) => println!("{}", writer.duration() * u32::from(spec.channels)),
             Err(_) => errors += 1,
         }
     }

@@ -60,7 +60,7 @@ impl<R: Read> ReadSamples for WavReader<R> {
         let bits = self.spec().bits_per_sample;
         match self.spec().sample_format {
             SampleFormat::Int => read_as(self, samples, |sample| F::of_integer(sample, bits)),
-            SampleFormat::Float => read_as(self, samples, F::of_float),
+            SampleFormat::Float => read_as(self, samples, F::from),
         }
     }
 }
@@ -91,7 +91,7 @@ impl<W: Write + Seek> WriteSamples for WavWriter<W> {
         let (bits, mut clipped) = (self.spec().bits_per_sample, 0);
         match self.spec().sample_format {
             SampleFormat::Int => {
-                let integers = samples.iter().map(|sample| double_to_int(sample.number(), bits, &mut clipped));
+                let integers = samples.iter().map(|sample| double_to_int((*sample).into(), bits, &mut clipped));
                 let integers: Vec<i32> = integers.collect();
                 self.write_samples(&integers)?;
             }
@@ -105,7 +105,7 @@ impl<W: Write + Seek> WriteSamples for WavWriter<W> {
 }
 
 /// The types of floats that are scaled: `f32`, and `f64`, which holds integers of 32 bits, too.
-pub trait Scaled: Copy + Default + sealed::Float {}
+pub trait Scaled: Copy + Default + From<f32> + Into<f64> + sealed::Float {}
 
 macro_rules! scaled {
     ($float:ident, $of_integer:ident, $to_float:expr) => {
@@ -113,12 +113,6 @@ macro_rules! scaled {
         impl sealed::Float for $float {
             fn of_integer(sample: i32, bits: u16) -> $float {
                 $of_integer(sample, bits)
-            }
-            fn of_float(float: f32) -> $float {
-                float.into()
-            }
-            fn number(self) -> f64 {
-                self.into()
             }
             fn to_float(self) -> Option<f32> {
                 $to_float(self)
@@ -136,8 +130,6 @@ mod sealed {
 
     pub trait Float {
         fn of_integer(sample: i32, bits: u16) -> Self;
-        fn of_float(float: f32) -> Self;
-        fn number(self) -> f64;
         // None where a finite number would be infinite.
         fn to_float(self) -> Option<f32>;
     }

@@ -1,6 +1,7 @@
 use crate::proved::spec;
 use crate::proved::writer::RecorderError;
-use std::{error, fmt, io, result};
+use std::io::{self, ErrorKind};
+use std::{error, fmt, result};
 
 /// Why a call failed.
 #[derive(Debug)]
@@ -62,7 +63,7 @@ impl From<spec::Error> for Error {
             spec::Error::Unsupported => Error::Unsupported,
             spec::Error::InvalidSampleFormat => Error::InvalidSampleFormat,
             spec::Error::TooLong => too_long(),
-            spec::Error::OutOfMemory => io::Error::from(io::ErrorKind::OutOfMemory).into(),
+            spec::Error::OutOfMemory => io::Error::from(ErrorKind::OutOfMemory).into(),
         }
     }
 }
@@ -72,16 +73,9 @@ impl From<RecorderError> for Error {
         let (kind, text) = match error {
             RecorderError::NotWritable => return Error::Unsupported,
             RecorderError::UnfinishedFrame => return Error::UnfinishedSample,
-            RecorderError::Truncated => (
-                io::ErrorKind::UnexpectedEof,
-                "the header counts a sample that the file doesn't hold: it can be repaired",
-            ),
-            RecorderError::NeedsMend => {
-                (io::ErrorKind::InvalidData, "the recording was cut off, and has to be repaired first")
-            }
-            RecorderError::NeedsOverwrite => {
-                (io::ErrorKind::InvalidData, "chunks or a tag follow the data, and would be overwritten")
-            }
+            RecorderError::Truncated => (ErrorKind::UnexpectedEof, "the file lacks samples that its header counts"),
+            RecorderError::NeedsMend => (ErrorKind::InvalidData, "the recording was cut off: repair it first"),
+            RecorderError::NeedsOverwrite => (ErrorKind::InvalidData, "chunks after the data would be overwritten"),
             _ => return too_long(),
         };
         io::Error::new(kind, text).into()
@@ -89,5 +83,5 @@ impl From<RecorderError> for Error {
 }
 
 fn too_long() -> Error {
-    io::Error::new(io::ErrorKind::Other, "the sizes of the file would not fit in 32 bits").into()
+    io::Error::new(ErrorKind::Other, "the sizes of the file would not fit in 32 bits").into()
 }

@@ -7,7 +7,8 @@ use std::io::{self, ErrorKind, Read, Seek, SeekFrom, Write};
 use std::panic::{self, AssertUnwindSafe};
 use std::sync::{Mutex, PoisonError};
 
-/// A reader. Where it claims more bytes than it had room for, it has given as many as that.
+/// A reader. Where it claims more bytes than it had room for, it has given as many as that. A read of a repair that was
+/// interrupted is repeated; others aren't, as by hound.
 pub struct Input<R>(pub(crate) R);
 
 impl<R: Read> Read for Input<R> {
@@ -29,11 +30,18 @@ impl<R: Seek> Placed for Input<R> {
 }
 
 impl<R: Read + Seek> Source for Input<R> {
-    #[inline]
     fn get(&mut self, bytes: &mut [u8]) -> io::Result<usize> {
-        self.read(bytes)
+        loop {
+            match self.read(bytes) {
+                Err(error) if error.kind() == ErrorKind::Interrupted => {}
+                result => return result,
+            }
+        }
     }
 }
+
+/// How a file is synced.
+pub(crate) type SyncBy = fn(&File) -> io::Result<()>;
 
 /// A writer, or a file whose flush returns once the disk has what was written.
 ///
@@ -43,7 +51,7 @@ impl<R: Read + Seek> Source for Input<R> {
 pub struct Output<W> {
     inner: W,
     panic: Option<Mutex<Box<dyn Any + Send>>>, // It is `Sync`, and nobody locks it.
-    disk: Option<File>,                        // The same file, which a flush syncs.
+    disk: Option<(File, SyncBy)>,              // The same file, and how a flush syncs it.
     sync_has_failed: bool,
     place: u64,
     has_gone_back: bool,
@@ -65,7 +73,7 @@ impl<W> Output<W> {
     }
 
     /// A writer over a file of this crate's own, which is given once more where its flushes are syncs.
-    pub(crate) fn of_file(inner: W, disk: Option<File>) -> Output<W> {
+    pub(crate) fn of_file(inner: W, disk: Option<(File, SyncBy)>) -> Output<W> {
         Output { disk, writes_there: Some(true), ..Output::new(inner) }
     }
 
@@ -90,7 +98,7 @@ impl<W> Output<W> {
         if self.sync_has_failed {
             return Err(io::Error::new(ErrorKind::Other, "an earlier sync of the file failed"));
         }
-        let result = self.disk.as_ref().map_or(Ok(()), File::sync_data);
+        let result = self.disk.as_ref().map_or(Ok(()), |(disk, sync)| sync(disk));
         self.sync_has_failed = result.is_err();
         result
     }

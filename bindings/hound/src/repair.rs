@@ -1,5 +1,5 @@
 use crate::lock::open_locked;
-use crate::medium::{Input, Output};
+use crate::medium::{Input, Output, SyncBy};
 use crate::proved::repair::mend::{look_by_parts, perform_all};
 pub use crate::proved::repair::RepairState;
 use crate::proved::repair::{Damage, Task};
@@ -64,7 +64,8 @@ fn repair_by(task: Task, filename: &path::Path) -> Result<Repair> {
 fn repair_in(task: Task, mut file: &fs::File) -> Result<Repair> {
     file.stream_position()?; // A pipe has no places.
     let damage = look_by_parts(&mut Input(file), task)?;
-    perform_all(&mut Output::of_file(file, Some(file.try_clone()?)), task, damage)?;
+    let disk = (file.try_clone()?, fs::File::sync_all as SyncBy);
+    perform_all(&mut Output::of_file(file, Some(disk)), task, damage)?;
     let (head, found) = (damage.head, damage.repair());
     let frame = u32::from(head.spec_ex.spec.channels) * u32::from(head.spec_ex.bytes_per_sample);
     Ok(Repair {

@@ -1,5 +1,5 @@
 use crate::lock::open_locked;
-use crate::medium::{Input, Output, Target};
+use crate::medium::{Input, Output, SyncBy, Target};
 use crate::proved::durable::Durable;
 use crate::proved::spec::{self, header_of};
 use crate::proved::walk::{error_of, read_until_data, FileHead};
@@ -238,7 +238,7 @@ fn unbuffered(file: fs::File) -> io::BufWriter<fs::File> {
 }
 
 fn durable(file: fs::File) -> io::Result<Target<io::BufWriter<fs::File>>> {
-    let disk = file.try_clone()?;
+    let disk = (file.try_clone()?, fs::File::sync_data as SyncBy);
     Ok(Target::Durable(Durable::new(Output::of_file(unbuffered(file), Some(disk)))))
 }
 

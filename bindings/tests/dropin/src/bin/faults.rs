@@ -1,9 +1,9 @@
 //! A writer of which each call fails in turn, once or from there on, a write after half of its bytes: after an Ok
 //! `finalize` the original reads the accepted samples, exactly; after an error those of the last `flush` that was Ok,
-//! and maybe more of the accepted. The package keeps this; of the original it is counted. Where the header counts a part
-//! of a frame, which a later `flush` was to finish, the frames before it are read. (An append that can't begin leaves
-//! the file as it was.) And writers that are full at each length: the package counts no fewer samples than the original,
-//! but for those since the last `flush`.   faults
+//! and maybe more of the accepted. The package keeps this; of the original it is counted. Where the header counts a
+//! part of a frame, which a later `flush` was to finish, the frames before it are read. (An append that can't begin
+//! leaves the file as it was.) And writers that are full at each length: the package counts no fewer samples than the
+//! original, but for those since the last `flush`.   faults
 use dropin::{both, Tally};
 use std::cell::RefCell;
 use std::collections::BTreeMap;

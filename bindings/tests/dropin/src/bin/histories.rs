@@ -95,8 +95,8 @@ both! {
         result.map_or_else(|error| format!("[{error}] "), |()| "Ok ".into())
     }
 
-    /// What the calls return, and the file. After a flush within a frame the original writes to a wrong place: so such a
-    /// flush may be passed over.
+    /// What the calls return, and the file. After a flush within a frame the original writes to a wrong place: so such
+    /// a flush may be passed over.
     pub fn write(seed: u64, flushes_torn: bool) -> (String, Vec<u8>) {
         let mut chooser = Chooser::new(seed);
         let (bits, width, sample_format) = chooser.one_of(&[
