@@ -634,9 +634,8 @@ fn a_read_that_is_interrupted_is_an_error_as_by_hound_and_takes_no_byte() {
         }
     }
     let file = || Cursor::new(written(MONO, &numbers(9)));
-    let is_interrupted = |error: &Error| {
-        matches!(error, Error::IoError(fault) if fault.kind() == io::ErrorKind::Interrupted)
-    };
+    let is_interrupted =
+        |error: &Error| matches!(error, Error::IoError(fault) if fault.kind() == io::ErrorKind::Interrupted);
     let mut reader = WavReader::new(Broken(file(), 1, false)).unwrap();
     let items: Vec<_> = reader.samples::<i16>().map(|item| item.map_err(|error| is_interrupted(&error))).collect();
     assert_eq!(items, [Err(true), Ok(0), Err(true), Ok(1), Err(true), Ok(2), Err(true), Ok(3), Err(true)]);
@@ -683,6 +682,23 @@ fn a_writer_that_claims_more_bytes_than_it_was_given_took_these() {
         writer.finalize().unwrap();
         assert_eq!(disk.contents(), written(MONO, &numbers(9000)));
     }
+}
+
+#[test]
+fn a_writer_that_takes_no_byte_is_full() {
+    let mut room = [0; 44 + 9];
+    let mut writer = WavWriter::new(Cursor::new(&mut room[..]), MONO).unwrap();
+    writer.write_sample(7i16).unwrap();
+    writer.flush().unwrap();
+    write_by(0, &mut writer, 0, 9).unwrap();
+    for _ in 0..2 {
+        match writer.flush() {
+            Err(Error::IoError(fault)) => assert_eq!(fault.kind(), io::ErrorKind::WriteZero),
+            other => panic!("{other:?}"),
+        }
+    }
+    drop(writer);
+    assert_eq!(WavReader::new(&room[..]).unwrap().into_samples().collect::<Result<Vec<i16>>>().unwrap(), [7]);
 }
 
 #[test]
@@ -1216,6 +1232,16 @@ fn readers_and_writers_are_sent_shared_and_survive_panics() {
     can_be::<WavReader<io::BufReader<fs::File>>>();
     can_be::<hound::WavIntoSamples<io::BufReader<fs::File>, i16>>();
     can_be::<WavWriter<io::BufWriter<fs::File>>>();
+}
+
+/// A reader and a writer of what lives longer are taken for those of what lives shorter.
+#[allow(dead_code)]
+fn readers_and_writers_are_covariant<'short>(
+    reader: WavReader<&'static [u8]>,
+    samples: hound::WavIntoSamples<&'static [u8], i16>,
+    writer: WavWriter<Cursor<&'static mut [u8]>>,
+) -> (WavReader<&'short [u8]>, hound::WavIntoSamples<&'short [u8], i16>, WavWriter<Cursor<&'short mut [u8]>>) {
+    (reader, samples, writer)
 }
 
 /// A file of 4 GiB, of which only the header is kept.
