@@ -7,6 +7,7 @@ check_erased.py, which shares nothing with it but that table, shows that nothing
 usage: scripts/erase.py [--check]     (it writes the modules; with --check it compares them, and writes nothing)
 """
 import re
+import shutil
 import subprocess
 import sys
 from pathlib import Path
@@ -149,6 +150,8 @@ def modules() -> dict:
 
 
 def formatted(text: str) -> str:
+    if not shutil.which("rustfmt"):
+        raise SystemExit("erase: it needs rustfmt")
     return subprocess.run(RUSTFMT, input=text, capture_output=True, text=True, check=True).stdout
 
 

@@ -136,7 +136,7 @@ macro_rules! sample {
 sample!(i8, i16::from);
 sample!(i16, |sample| sample);
 sample!(i32, |sample| sample as i16);
-sample!(f32, |_| panic!("Calling as_i16 with an f32 is invalid."));
+sample!(f32, |_| panic!("a float has no 16 bits"));
 
 /// What a type of the user's own writes: one container, or it is rejected.
 #[derive(Clone, Copy)]

@@ -93,12 +93,8 @@ impl<W: Write + Seek> WavWriter<W> {
     #[inline]
     pub fn get_i16_writer<'s>(&'s mut self, num_samples: u32) -> SampleWriter16<'s, W> {
         let (spec, count) = (self.spec(), num_samples as usize);
-        if spec.sample_format != SampleFormat::Int {
-            panic!("When calling get_i16_writer, the sample format must be int.");
-        }
-        if spec.bits_per_sample != 16 {
-            panic!("When calling get_i16_writer, the number of bits per sample must be 16.");
-        }
+        let is_of_16_bits = spec.sample_format == SampleFormat::Int && spec.bits_per_sample == 16;
+        assert!(is_of_16_bits, "a batch is of integers of 16 bits");
         if self.batch.len() < count {
             self.batch.resize(count, 0);
         }

@@ -371,9 +371,22 @@ fn a_file_is_appended_to_after_batches_and_flushes() {
     assert!(matches!(reader.read_samples(&mut block[..2]), (2, Ok(()))));
     assert!(matches!(reader.read_samples(&mut block[2..]), (3, Ok(()))));
     assert_eq!(block, [1, 2, 3, 4, 5, 9]);
-    assert!(
-        catch_unwind(|| WavWriter::new(Cursor::new(Vec::new()), FLOATS).unwrap().get_i16_writer(1).flush()).is_err()
-    );
+}
+
+#[test]
+fn a_batch_that_is_not_full_or_too_full_or_of_other_samples_panics() {
+    let flushes = |spec, count| {
+        catch_unwind(move || {
+            let mut writer = WavWriter::new(Cursor::new(Vec::new()), spec).unwrap();
+            let mut batch = writer.get_i16_writer(2);
+            (0..count).for_each(|sample: i16| batch.write_sample(sample));
+            batch.flush().unwrap();
+        })
+        .is_ok()
+    };
+    assert!(flushes(MONO, 2) && !flushes(MONO, 1) && !flushes(MONO, 3));
+    assert!(!flushes(FLOATS, 2) && !flushes(WavSpec { bits_per_sample: 24, ..MONO }, 2));
+    assert!(catch_unwind(|| 0.5f32.as_i16()).is_err());
 }
 
 #[test]
