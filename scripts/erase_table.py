@@ -91,11 +91,11 @@ REPLACEMENTS = [
     // How many bytes of the accepted samples are written.
     data_bytes_written: u32,
     // Whether the medium may be elsewhere than after these.
-    may_have_moved""", "A panic of the medium goes on after the call."),
-    Allowed("writer/lib.rt", 1, "mod append;", "pub(crate) mod append;", "It is called by bindings/hound."),
-    Allowed("sample/lib.rt", 1, "mod scale;", "pub(crate) mod scale;", "It is called by bindings/hound."),
-    Allowed("repair/lib.rt", 1, "mod mend;", "pub(crate) mod mend;", "It is called by bindings/hound."),
-    Allowed("repair/mend.rt", 1, "fn perform_all", "pub(crate) fn perform_all", "It is called by bindings/hound."),
+    may_have_moved""", "A panic of the medium goes on after the call.", in_rt=True),
+    Allowed("writer/lib.rt", 1, "mod append;", "pub(crate) mod append;", "bindings/hound calls it.", in_rt=True),
+    Allowed("sample/lib.rt", 1, "mod scale;", "pub(crate) mod scale;", "bindings/hound calls it.", in_rt=True),
+    Allowed("repair/lib.rt", 1, "mod mend;", "pub(crate) mod mend;", "bindings/hound calls it.", in_rt=True),
+    Allowed("repair/mend.rt", 1, "fn perform_all", "pub(crate) fn perform_all", "bindings/hound calls it.", in_rt=True),
     Allowed("spec/spec.rt", 1, "pub fn is_writable", "pub(crate) fn is_writable", "hound has no such method."),
     # What newer versions of Rust than 1.63 have.
     Allowed("sample/scale.rt", 1, "number.round_ties_even()", "crate::rattle::round_ties_even(number)",

@@ -161,9 +161,7 @@ impl Container {
 impl io::Write for Container {
     #[inline]
     fn write(&mut self, bytes: &[u8]) -> io::Result<usize> {
-        if let Some(room) = self.bytes.get_mut(self.length..).and_then(|room| room.get_mut(..bytes.len())) {
-            room.copy_from_slice(bytes);
-        }
+        self.bytes.iter_mut().skip(self.length).zip(bytes).for_each(|(slot, byte)| *slot = *byte);
         self.length += bytes.len();
         Ok(bytes.len())
     }
