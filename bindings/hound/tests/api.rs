@@ -1247,16 +1247,6 @@ fn readers_and_writers_are_sent_shared_and_survive_panics() {
     can_be::<WavWriter<io::BufWriter<fs::File>>>();
 }
 
-/// A reader and a writer of what lives longer are taken for those of what lives shorter.
-#[allow(dead_code)]
-fn readers_and_writers_are_covariant<'short>(
-    reader: WavReader<&'static [u8]>,
-    samples: hound::WavIntoSamples<&'static [u8], i16>,
-    writer: WavWriter<Cursor<&'static mut [u8]>>,
-) -> (WavReader<&'short [u8]>, hound::WavIntoSamples<&'short [u8], i16>, WavWriter<Cursor<&'short mut [u8]>>) {
-    (reader, samples, writer)
-}
-
 /// A file of 4 GiB, of which only the header is kept.
 struct Long {
     header: Cursor<Vec<u8>>,

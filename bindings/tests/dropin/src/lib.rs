@@ -1,4 +1,6 @@
 //! What the programs share: chosen bytes, blocks of samples, and a count of what is the same and what differs.
+mod items;
+
 use std::collections::BTreeMap;
 use std::io::Read;
 
