@@ -77,7 +77,8 @@ crate::both! {
         is_plain::<SampleFormat>();
         is_plain::<WavSpec>();
         is_copied::<WavSpecEx>();
-        let WavSpecEx { spec: WavSpec { channels, sample_rate, bits_per_sample, sample_format }, bytes_per_sample } = spec_ex;
+        let WavSpecEx { spec: of_spec_ex, bytes_per_sample } = spec_ex;
+        let WavSpec { channels, sample_rate, bits_per_sample, sample_format } = of_spec_ex;
         let _: (u16, u32, u16, u16) = (channels, sample_rate, bits_per_sample, bytes_per_sample);
         match sample_format {
             SampleFormat::Float | SampleFormat::Int => spec.into_header_for_infinite_file(),
