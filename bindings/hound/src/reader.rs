@@ -15,7 +15,7 @@ pub struct WavReader<R> {
     pub(crate) proved: Reader<R>,
 }
 
-// A panic within a call leaves nothing that is wrong, but the sample that was to be read isn't counted.
+// Where the user's reader panics, the sample that was to be read isn't counted, and nothing else is wrong.
 impl<R: panic::UnwindSafe> panic::UnwindSafe for WavReader<R> {}
 impl<R: panic::RefUnwindSafe> panic::RefUnwindSafe for WavReader<R> {}
 
