@@ -38,6 +38,18 @@ impl fmt::Display for Error {
 
 // As hound's, whose `source` is none.
 impl error::Error for Error {
+    #[allow(deprecated)]
+    fn description(&self) -> &str {
+        match self {
+            Error::IoError(error) => error.description(),
+            Error::FormatError(reason) => reason,
+            Error::TooWide => "the sample has more bits than the destination type",
+            Error::UnfinishedSample => "the number of samples written is not a multiple of the number of channels",
+            Error::Unsupported => "the wave format of the file is not supported",
+            Error::InvalidSampleFormat => "the sample format differs from the destination format",
+        }
+    }
+
     fn cause(&self) -> Option<&dyn error::Error> {
         match self {
             Error::IoError(error) => Some(error),

@@ -24,8 +24,7 @@ pub trait Sample: Sized {
     /// The lowest 16 bits of an integer.
     fn as_i16(self) -> i16;
 
-    // What readers and writers call. A type of your own writes its container into memory first, and reads its item from
-    // the reader itself. No trait of yours has these names, which would be ambiguous then.
+    // What readers and writers call; of a type of your own it is by the calls above. No trait of yours has such names.
 
     #[doc(hidden)]
     #[inline]

@@ -91,8 +91,10 @@ both! {
         answers + &rest.by_ref().bytes().count().to_string()
     }
 
+    #[allow(deprecated)]
     fn shown(result: Result<()>) -> String {
-        result.map_or_else(|error| format!("[{error}] "), |()| "Ok ".into())
+        use std::error::Error;
+        result.map_or_else(|error| format!("[{error}, {}] ", error.description()), |()| "Ok ".into())
     }
 
     /// What the calls return, and the file. After a flush within a frame the original writes to a wrong place: so such
