@@ -718,6 +718,41 @@ fn a_writer_that_takes_no_byte_is_full() {
 }
 
 #[test]
+fn a_writer_is_dropped_once_the_sizes_are_written() {
+    /// What it has written when it is dropped.
+    struct Last(Disk, Rc<RefCell<Vec<u8>>>);
+    impl Write for Last {
+        fn write(&mut self, bytes: &[u8]) -> io::Result<usize> {
+            self.0.write(bytes)
+        }
+        fn flush(&mut self) -> io::Result<()> {
+            self.0.flush()
+        }
+    }
+    impl Seek for Last {
+        fn seek(&mut self, to: SeekFrom) -> io::Result<u64> {
+            self.0.seek(to)
+        }
+    }
+    impl Drop for Last {
+        fn drop(&mut self) {
+            *self.1.borrow_mut() = self.0.contents();
+        }
+    }
+    for finalizes in [true, false] {
+        let last = Rc::default();
+        let mut writer = WavWriter::new(Last(Disk::default(), Rc::clone(&last)), MONO).unwrap();
+        writer.write_sample(5i16).unwrap();
+        if finalizes {
+            writer.finalize().unwrap();
+        } else {
+            drop(writer);
+        }
+        assert_eq!(*last.borrow(), written(MONO, &[5i16]));
+    }
+}
+
+#[test]
 fn a_medium_that_panics_always_ends_no_program() {
     struct Locked;
     impl Write for Locked {
