@@ -53,12 +53,12 @@ pub enum Stage {
     Head(HeadWalk),
     /// The single byte after the data, of a file with this head.
     Last(SeenHead),
-    /// The RIFF size.
-    Size(SeenHead),
     /// What may be a chunk's header at this place; `true` if those after the pad byte come first.
     Chunk(SeenHead, u64, bool),
     /// What may be an ID3v1 tag at the end.
     Tag(SeenHead),
+    /// The RIFF size, once nothing was found that follows the data.
+    Size(SeenHead),
 }
 
 // Where one part leads.
@@ -141,7 +141,7 @@ fn at_end(damage: Damage) -> LookStep {
     if length + ID3_LENGTH <= damage.held {
         return LookStep::Next(Stage::Tag(damage.head));
     }
-    LookStep::Found(damage)
+    LookStep::Next(Stage::Size(damage.head))
 }
 
 // On, where no chunk begins at a place, which was that after the pad byte.
@@ -154,30 +154,14 @@ fn at_no_chunk(damage: Damage, padded: bool) -> LookStep {
     at_end(damage)
 }
 
-// On, where the sizes aren't right and chunks are looked for.
-fn after_sizes(damage: Damage) -> LookStep {
-    let length = damage.head.data_length as u64;
-    let padded = length + length % 2;
-    if padded < damage.held {
-        let place = damage.head.data_start + padded;
-        return LookStep::Next(Stage::Chunk(damage.head, place, true));
-    }
-    at_no_chunk(damage, true)
-}
-
-// Takes the RIFF size.
-fn take_size(task: Task, damage: Damage, bytes: &[u8]) -> Result<LookStep, Unrepairable> {
-    if bytes.len() < 4 {
-        return Err(Unrepairable::Head(Cause::Ended));
-    }
+// Takes the RIFF size, where nothing that follows the data was found or looked for.
+fn take_size(damage: Damage, bytes: &[u8]) -> LookStep {
     let sizes = damage.sizes;
-    if u32_at(bytes, 0) == sizes.riff_size && damage.head.data_length == sizes.data_length {
-        return Ok(found_as(damage, RepairState::Whole));
+    let are_right = u32_at(bytes, 0) == sizes.riff_size && damage.head.data_length == sizes.data_length;
+    if are_right && !damage.lacks_pad() {
+        return found_as(damage, RepairState::Whole);
     }
-    if task == Task::RepairToEnd {
-        return Ok(LookStep::Found(damage));
-    }
-    Ok(after_sizes(damage))
+    LookStep::Found(damage)
 }
 
 // Takes what may be the header of a chunk at this place.
@@ -200,17 +184,28 @@ fn take_tag(damage: Damage, bytes: &[u8]) -> LookStep {
     if bytes == ID3_TAG.as_slice() {
         return found_as(damage, RepairState::HasChunksAfterData);
     }
-    LookStep::Found(damage)
+    LookStep::Next(Stage::Size(damage.head))
 }
 
-// What is requested once the head is found: the byte after the data, if it is the only one, or the RIFF size.
-fn after_head(length: u64, head: FileHead) -> Stage {
+// What is requested once it is known which data length the file shows: what may be a chunk after the data, where chunks
+// are looked for and more than a pad byte follows; else the RIFF size.
+fn after_data(length: u64, task: Task, head: SeenHead) -> Stage {
+    let data_length = head.data_length as u64;
+    let place = head.data_start + data_length + data_length % 2;
+    if task != Task::RepairToEnd && place < length.min(LIMIT) {
+        return Stage::Chunk(head, place, true);
+    }
+    Stage::Size(head)
+}
+
+// What is requested once the head is found: the byte after the data, if it is the only one, or what comes after that.
+fn after_head(length: u64, task: Task, head: FileHead) -> Stage {
     let seen =
         SeenHead { spec_ex: head.spec_ex, data_length: head.data_length, data_start: head.data_start, has_more: false };
     if length == head.data_start + head.data_length as u64 + 1 {
         return Stage::Last(seen);
     }
-    Stage::Size(seen)
+    after_data(length, task, seen)
 }
 
 // Whether a single byte after the data, which is this if there is one, is a sample.
@@ -219,30 +214,40 @@ fn is_sample(bytes: &[u8]) -> bool {
 }
 
 // Takes the byte after the data.
-fn take_last(head: SeenHead, bytes: &[u8]) -> LookStep {
-    LookStep::Next(Stage::Size(SeenHead { has_more: is_sample(bytes), ..head }))
+fn take_last(length: u64, task: Task, head: SeenHead, bytes: &[u8]) -> LookStep {
+    let seen = SeenHead { has_more: is_sample(bytes), ..head };
+    LookStep::Next(after_data(length, task, seen))
 }
 
 // Takes a part of the header.
-fn take_header(length: u64, walk: HeadWalk, bytes: &[u8]) -> Result<LookStep, Unrepairable> {
+fn take_header(length: u64, task: Task, walk: HeadWalk, bytes: &[u8]) -> Result<LookStep, Unrepairable> {
     match take_part(walk, bytes) {
         Ok(Step::Next(next)) => Ok(LookStep::Next(Stage::Head(next))),
-        Ok(Step::Data(head)) => Ok(LookStep::Next(after_head(length, head))),
+        Ok(Step::Data(head)) => Ok(LookStep::Next(after_head(length, task, head))),
         Err(cause) => Err(Unrepairable::Head(cause)),
     }
+}
+
+// Whether these are all bytes that a file of so many has of the part that was requested.
+fn are_enough(size: u64, stage: Stage, bytes: &[u8]) -> bool {
+    let left = size.min(LIMIT).saturating_sub(stage.place(size));
+    bytes.len() as u64 >= left.min(stage.count() as u64)
 }
 
 // Takes the bytes that a look asks for, fewer only at the end of the file, and returns where they lead: to another
 // part, or to what `repair` finds. At an error the look has ended.
 pub(crate) fn take_asked(length: u64, task: Task, stage: Stage, bytes: &[u8]) -> Result<LookStep, Unrepairable> {
+    if !are_enough(length, stage, bytes) {
+        return Err(Unrepairable::Head(Cause::Ended));
+    }
     match stage {
-        Stage::Head(walk) => take_header(length, walk, bytes),
-        Stage::Last(head) => Ok(take_last(head, bytes)),
-        Stage::Size(head) => take_size(task, measured(length, head)?, bytes),
+        Stage::Head(walk) => take_header(length, task, walk, bytes),
+        Stage::Last(head) => Ok(take_last(length, task, head, bytes)),
         Stage::Chunk(head, place, padded) => {
             let damage = measured(length, head)?;
             Ok(take_chunk(damage, place, padded, bytes))
         }
         Stage::Tag(head) => Ok(take_tag(measured(length, head)?, bytes)),
+        Stage::Size(head) => Ok(take_size(measured(length, head)?, bytes)),
     }
 }

@@ -8,7 +8,8 @@ use std::fmt;
 /// What a file was found as.
 #[derive(Clone, Copy, Debug, PartialEq, Eq)]
 pub enum RepairState {
-    /// Both sizes are right: those of the whole frames that the file holds.
+    /// Both sizes are right: those of the whole frames that the file holds. No pad byte is missing, and nothing that
+    /// looks like chunks or a tag follows; bytes of a torn frame may.
     Whole,
     /// The data length is wrong, as where a recording was cut off.
     CutOff,
@@ -16,8 +17,8 @@ pub enum RepairState {
     /// or its common extensions, as `LIST`, `bext` or `id3 `, which may itself be cut off; chunks with printable tags
     /// to the end of the file; or an ID3v1 tag at the end. The pad byte after the data may lack.
     HasChunksAfterData,
-    /// The data length counts all whole frames that the file holds. Only the RIFF size is another one than in the
-    /// canonical form, as where a program writes no pad byte, so no sample is concerned.
+    /// The data length counts all whole frames that the file holds, so no sample is concerned. Only the RIFF size is
+    /// another one than in the canonical form, or the pad byte is missing, such as where a program writes none.
     AllCounted,
 }
 
@@ -28,7 +29,7 @@ impl fmt::Display for RepairState {
             RepairState::Whole => "the file is whole",
             RepairState::CutOff => "the recording was cut off",
             RepairState::HasChunksAfterData => "something follows the data, so they weren't cut off",
-            RepairState::AllCounted => "all samples are counted, and only the RIFF size differs",
+            RepairState::AllCounted => "all samples are counted, and only the RIFF size or the pad byte differs",
         })
     }
 }
@@ -112,10 +113,11 @@ impl Recorder {
 
     /// A recorder that appends to a file that was found. What follows the samples that the header counts is cut off,
     /// and never without leave: samples of a recording that was cut off are kept instead where `mends` is true, and
-    /// chunks are given up where `overwrites` is. It is an error if samples are missing.
+    /// chunks are given up where `overwrites` is. Bytes of a torn frame, which no reader reads, are cut off without
+    /// leave. It is an error if samples are missing.
     ///
-    /// So the recorder keeps all that the header counts. A header that counts a part of a frame, too, has to be
-    /// repaired first, since that part would be cut off while it is still counted.
+    /// So the recorder keeps all that the header counts. A header that counts more than the whole frames has to be
+    /// repaired first, since what is more would be cut off while it is still counted.
     pub fn resume(found: FoundFile, mends: bool, overwrites: bool) -> Result<Recorder, RecorderError> {
         let kept = found.kept_length(mends, overwrites)?;
         Recorder::continue_after(found, kept)
