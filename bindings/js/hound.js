@@ -241,7 +241,7 @@ const REPORTED = ["frames", "dataStart", "state", "counted", "leftOver", "dataLe
     than its own, would be ignored: so a file would be emptied that `exclusive` was to keep. */
 function checkedOptions(options, names, ignored = []) {
   const other = Object.keys(options).find((name) => !names.includes(name) && !ignored.includes(name));
-  if (other !== undefined) throw new TypeError(`${other} is no option of this argument, which has ${names.join(", ")}`);
+  if (other !== undefined) throw new TypeError(`${other} is no option of this argument, which has ${names.join(", ") || "none"}`);
   return options;
 }
 
@@ -736,7 +736,8 @@ function repairBy(size, mode, perform) {
 }
 
 /** Reports what `repair` would find, or fails as it would. */
-export async function findDamage(file) {
+export async function findDamage(file, options = {}) {
+  checkedOptions(options, []);
   const given = fileOf(file);
   await ready();
   const { report } = await repairBy(sizeOf(given), FIND_DAMAGE, readerOf(given));
@@ -744,7 +745,8 @@ export async function findDamage(file) {
 }
 
 /** Where samples may begin in a file whose header is damaged: after what looks like the header of its data, or at 0. */
-export async function guessStart(file) {
+export async function guessStart(file, options = {}) {
+  checkedOptions(options, []);
   const given = fileOf(file);
   await ready();
   const front = await frontOf(readerOf(given));
@@ -946,7 +948,8 @@ export async function repairFile(path, options = {}) {
 }
 
 /** Reports what `repairFile` would find, or fails as it would; the file may be read-only. */
-export async function findDamageInFile(path) {
+export async function findDamageInFile(path, options = {}) {
+  checkedOptions(options, []);
   return repairAt(path, "O_RDONLY", FIND_DAMAGE);
 }
 

@@ -339,6 +339,8 @@ test("an option that a call doesn't know, or of another argument, is an error be
     [() => repair(whole, { overwrite: true }), "overwrite"],
     [() => repair(whole, { like: { ...SPEC, skip: 44 } }), "skip"],
     [() => guess(whole, { start: 44 }), "start"],
+    [() => findDamage(whole, { toEnd: true }), "toEnd"],
+    [() => findDamageInFile(take, { toEnd: true }), "toEnd"],
     [async () => (await record(take, SPEC, { split: 9 })).write(one, { channels: 2 }), "channels"],
   ]) {
     const message = new RegExp(`^${name} is no option of this argument, which has [a-z]`);

@@ -1,6 +1,7 @@
 // What hound.d.ts declares: `tsc` accepts this file, where each call has its arguments and its result.
 import {
-  HoundError, append, appendTo, findDamage, findDamageInFile, info, read, record, repair, repairFile, write,
+  HoundError, append, appendTo, continueFile, findDamage, findDamageInFile, info, read, record, repair, repairFile,
+  write,
 } from "../hound.js";
 import type { Damage, Info, Recorder } from "../hound.js";
 
@@ -26,6 +27,7 @@ export async function uses(blob: Blob, bytes: Uint8Array): Promise<string> {
   const recorder: Recorder = await record("take.wav", form, { durable: true, exclusive: true });
   await recorder.write([left!, right!], { onClipped: () => {} });
   await (await appendTo(new URL("file:///take.wav"), { durable: true })).close();
+  const held: number = (await continueFile("take.wav", form, { durable: added > 0 })).tell();
   // @ts-expect-error: without samples the bits are needed.
   await record("take.wav", { sampleRate: 8000 });
   // @ts-expect-error: a repaired Uint8Array is no Blob.
@@ -36,5 +38,5 @@ export async function uses(blob: Blob, bytes: Uint8Array): Promise<string> {
   await write([left!, wide], head);
   // @ts-expect-error: the rate is missing.
   await write(wide, { channels: 2 });
-  return found.state === "cutOff" ? new HoundError("NEEDS_MEND").code : `${head.frames} ${head.isFloat}`;
+  return found.state === "cutOff" ? new HoundError("NEEDS_MEND").code : `${head.frames} ${head.isFloat} ${held}`;
 }
