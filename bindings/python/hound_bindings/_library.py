@@ -139,7 +139,7 @@ _ADVICE: Advice = {
 }
 
 
-# The number that the fmt chunk has of integers, and by what it may be rejected though FFmpeg reads such a file.
+# The number that the fmt chunk has of integers, and by what it is rejected though FFmpeg reads many such files.
 _PCM = 1
 _ODD_HEADERS = (
     Cause.UNEXPECTED_FMT_SIZE, Cause.EXTENSIBLE_SIZE, Cause.INCONSISTENT, Cause.BITS_NOT_WHOLE_BYTES,
@@ -147,12 +147,17 @@ _ODD_HEADERS = (
 )  # fmt: skip
 
 
+# The samples that no type reads, and FFmpeg does.
+_CONVERTED = "integers of 64 bits"
+
+
 class HoundError(ValueError):
     """A call failed, for this cause; `filename` is the name of the file, if it has one. Where its header was rejected,
     `kind` is the number of what it is, as `hound_kind` of hound.h has it, and the text names it."""
 
-    _role = ""  # GIVEN where the cause is in samples that are given, for a file of so many bits
-    _bits: Optional[int] = None  # or where no type reads the integers of a file, how many bits these have.
+    _role = ""  # GIVEN where the cause is in samples that are given,
+    _bits = 0  # for a file of so many bits.
+    _held: Optional[str] = None  # What the samples of a file are that no type reads.
 
     def __init__(self, cause: Cause) -> None:
         super().__init__(cause)
@@ -163,18 +168,16 @@ class HoundError(ValueError):
     @property
     def held(self) -> Optional[str]:
         """The name of what the file holds, where it is known and isn't read."""
-        if self._bits and not self._role:
-            return f"integers of {self._bits} bits"
-        return None if self.kind is None else _KINDS.get(self.kind)
+        return self._held or (None if self.kind is None else _KINDS.get(self.kind))
 
     def _of_given(self, bits: int) -> "HoundError":
         """The same error, of samples that are given for a file of so many bits."""
         self._role, self._bits = GIVEN, bits
         return self
 
-    def _of_file(self, bits: int) -> "HoundError":
-        """The same error, of a file whose integers no type reads."""
-        self._bits = bits
+    def _of_file(self, held: str) -> "HoundError":
+        """The same error, of a file that has such samples, which no type reads."""
+        self._held = held
         return self
 
     def __str__(self) -> str:
@@ -186,17 +189,17 @@ class HoundError(ValueError):
             what = ": ".join(filter(None, (self.cause.sentence, self._advised(advice))))
             return what if self.filename is None else f"{self.filename}: {what}"
         holds = f"{self.filename or 'the file'} holds {self.held}, so it isn't read"
-        if self._bits not in (None, 64):
+        if self._held not in (None, _CONVERTED):
             return f"{holds} ({self.cause.sentence})"  # No program is known that converts it.
         return f"{holds}: convert it by {self._converting()} ({self.cause.sentence})"
 
     def _advised(self, advice: Advice) -> Optional[str]:
         """What can be done about the cause."""
         if self.kind == _PCM and self.cause in _ODD_HEADERS:
-            return f"FFmpeg takes such a header ({self._converting()})"
+            return f"FFmpeg reads many such files ({self._converting()})"
         if not self._role:
             return advice.get(self.cause)
-        more = next((bits for bits, _ in INTEGERS if bits > (self._bits or 0)), None)
+        more = next((bits for bits, _ in INTEGERS if bits > self._bits), None)
         if self.cause == Cause.TOO_WIDE and more is None:
             return None  # No file holds it.
         return advice.get((self.cause, self._role), "").format(bits=more)

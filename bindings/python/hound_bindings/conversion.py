@@ -141,7 +141,8 @@ class Way:
     def __init__(self, dtype: str, spec: CSpec) -> None:
         form, width = TYPES[dtype], width_of(dtype)
         self.dtype, self.code, self.width, self.spec = dtype, form.code, width, ctypes.byref(spec)
-        self.channels, self.bits, is_float = spec.channels, spec.bits_per_sample, bool(spec.sample_format)
+        self.channels, self.bits = spec.channels, spec.bits_per_sample
+        self.is_float = is_float = bool(spec.sample_format)
         # How many bytes a sample has in the file.
         self.size = spec.bytes_per_sample or (self.bits + 7) // 8
         # Whether integers are floats, or become floats, whose full scale is 1.
@@ -299,12 +300,20 @@ class Room:
         return _shaped(self._array, self.way.channels, always_2d)
 
 
+def _readable(kind: str, way: Way) -> int:
+    """A code: whether the samples of a file are read by the call of this kind."""
+    return int(_decode[kind](way.spec, SPARE, 0, SPARE, 0))
+
+
 def check_readable(way: Way, front: Callable[[], bytes]) -> None:
     """An error where the samples of a file, which begins with these bytes, aren't read so."""
     try:
-        check_header(int(_decode[way.decodes](way.spec, SPARE, 0, SPARE, 0)), front)
+        check_header(_readable(way.decodes, way), front)
     except HoundError as error:
-        raise error._of_file(way.bits) if way.bits > _MOST_BITS else error
+        if error.cause == Cause.TOO_WIDE and error.held is None and _readable("i32", way) < 0:
+            held = f"{'floats' if way.is_float else 'integers'} of {way.bits} bits"
+            raise error._of_file(held if way.size * 8 == way.bits else f"{held} in {way.size} bytes") from None
+        raise
 
 
 _MOST_BITS = max(bits for bits, _ in INTEGERS)

@@ -353,11 +353,18 @@ class Files(unittest.TestCase):
             if shutil.which("ffmpeg"):
                 subprocess.run(words.replace("ffmpeg", "ffmpeg -v error -y"), shell=True, check=True)
                 self.assertEqual([value >> shift for value in hound.read(new)], values)
-        for bits in 40, 48, 56:
-            with self.assertRaises(HoundError) as caught:
-                hound.read(by_hand(bytes(bits), width=bits // 8), dtype="int32")
-            said = f"the file holds integers of {bits} bits, so it isn't read ({Cause.TOO_WIDE.sentence})"
-            self.assertEqual((str(caught.exception), caught.exception.cause), (said, Cause.TOO_WIDE))
+        extensible = {"tag": 0xFFFE, "extra": struct.pack("<HHI", 22, 32, 4) + b"\3" + GUID[1:]}
+        for form, held in (
+            ({"width": 5}, "integers of 40 bits"), ({"width": 6}, "integers of 48 bits"),
+            ({"width": 7}, "integers of 56 bits"),
+            ({"width": 5, "bits": 32, **extensible}, "floats of 32 bits in 5 bytes"),
+        ):  # fmt: skip
+            for dtype in None, "int32", "float64":
+                with self.assertRaises(HoundError) as caught:
+                    hound.read(by_hand(bytes(40), **form), dtype=dtype)
+                if caught.exception.cause == Cause.TOO_WIDE:  # or of another format
+                    said = f"the file holds {held}, so it isn't read ({Cause.TOO_WIDE.sentence})"
+                    self.assertEqual(str(caught.exception), said)
 
     def test_what_helps_where_samples_are_given(self):
         for samples, bits, words in (
