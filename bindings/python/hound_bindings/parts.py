@@ -16,7 +16,7 @@ _MOST = 9999
 
 
 def part_name(path: Path, number: int) -> str:
-    """The name of a file of a recording, as take-002.wav is the second one of take.wav."""
+    """The name of a file of a recording: take-002.wav is the second one of take.wav."""
     stem, ending = os.path.splitext(os.fsdecode(path))
     return stem + ending if number == 1 else f"{stem}-{number:03}{ending}"
 

@@ -222,7 +222,7 @@ def _check_options_of_record(options: argparse.Namespace) -> bool:
     if (any(given) or options.float) and not all(given) and (options.append or options.raw):
         raise Wrong("--rate, --channels and --bits are given together, or none of them")
     if sys.stdin.isatty() and not all(given) and not options.append:
-        raise Wrong(f"--rate, --channels and --bits are needed, or a WAV stream in a pipe, as {_MICROPHONE}")
+        raise Wrong(f"no input is piped in. To record a microphone: {_MICROPHONE}")
     return all(given)
 
 
@@ -242,7 +242,7 @@ def _form_to_record(options: argparse.Namespace, source: _Input) -> hound.Info:
     is_given = _check_options_of_record(options)
     _check_target(options)
     if sys.stdin.isatty():
-        complain(f"samples are read from this terminal: to record a microphone pipe it in, as {_MICROPHONE}")
+        complain(f"samples are read from this terminal. To record a microphone: {_MICROPHONE}")
     form = None if options.raw else source.wav_form()
     if form is not None:
         _check_stream(form, options)

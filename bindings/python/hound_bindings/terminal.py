@@ -40,7 +40,7 @@ def say(line: str) -> None:
 
 
 def note(line: str) -> None:
-    """Prints a line to standard error. Where that takes none, as a terminal that was closed, nobody can be told so."""
+    """Prints a line to standard error. Where that takes none, such as a closed terminal, nobody can be told so."""
     with contextlib.suppress(OSError):
         print(line.translate(_ESCAPES), file=sys.stderr, flush=True)
 

@@ -2,7 +2,7 @@
 """Runs the tests of this package as it is here, without installing it: all of them, or those that are named. Those of
 numpy are skipped where it isn't there.
 
-usage: python3 bindings/python/tests/run.py [NAME..]     (as streams, streams.Parts or streams.Parts.test_arguments)"""
+usage: python3 bindings/python/tests/run.py [NAME..]   (such as streams, or streams.Parts.test_arguments)"""
 import os
 import subprocess
 import sys

@@ -887,11 +887,11 @@ class Command(Folder):
         self.run_command("record", "b.wav", *form, given=loud.tobytes())
         self.assertEqual(self.said, b"b.wav: 8000 Hz, 2 channels, 16 bits, 4000 frames, 0.500 s\n")
         said, status = self.on_a_terminal("record", "c.wav", *form, given=b"abc\n\4")
-        self.assertIn(b"samples are read from this terminal: to record a microphone pipe it in, as arecord ", said)
+        self.assertIn(b"samples are read from this terminal. To record a microphone: arecord ", said)
         self.assertEqual((status, self.content("c.wav")[44:]), (0, b"abc\n"))
         os.unlink(os.path.join(self.folder, "c.wav"))
         said, status = self.on_a_terminal("record", "c.wav")
-        self.assertIn(b"--rate, --channels and --bits are needed, or a WAV stream in a pipe, as arecord ", said)
+        self.assertIn(b"no input is piped in. To record a microphone: arecord ", said)
         self.assertEqual((status, os.path.exists(os.path.join(self.folder, "c.wav"))), (2, False))
 
     def test_a_terminal_holds_no_recording_up(self):
