@@ -2,10 +2,10 @@ use crate::lock::open_locked;
 use crate::medium::{Input, Output, SyncBy};
 use crate::proved::repair::mend::{look_by_parts, perform_all};
 pub use crate::proved::repair::RepairState;
-use crate::proved::repair::{Damage, Task};
+use crate::proved::repair::Task;
 use crate::proved::writer::FoundFile;
 use crate::{Error, Result, WavSpecEx};
-use std::io::{self, Read, Seek};
+use std::io::{self, Seek};
 use std::{fs, path};
 
 /// What a file holds (own).
@@ -78,9 +78,9 @@ fn repair_in(task: Task, mut file: &fs::File) -> Result<Repair> {
 }
 
 /// A file that is to be appended to, as a look finds it.
-pub(crate) fn find<R: Read + Seek>(mut file: R) -> Result<FoundFile> {
+pub(crate) fn find(mut file: &fs::File) -> Result<FoundFile> {
     let length = file.seek(io::SeekFrom::End(0))?;
-    let damage: Damage = look_by_parts(&mut Input(file), Task::FindDamage)?;
+    let damage = look_by_parts(&mut Input(file), Task::FindDamage)?;
     let (head, found) = (damage.head, damage.repair());
     Ok(FoundFile {
         spec_ex: found.spec_ex,

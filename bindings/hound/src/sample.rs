@@ -140,28 +140,29 @@ sample!(f32, |_| panic!("a float has no 16 bits"));
 /// What a type of the user's own writes: one container, or it is rejected.
 #[derive(Clone, Copy)]
 struct Container {
-    bytes: [u8; 4],
-    length: usize,
+    number: u64, // Its bytes, the low one first.
+    length: u32,
 }
 
 impl Container {
     #[inline]
     fn of<S: Sample>(sample: S, spec_ex: WavSpecEx) -> Result<Container> {
-        let mut container = Container { bytes: [0; 4], length: 0 };
+        let mut container = Container { number: 0, length: 0 };
         sample.write_padded(&mut container, spec_ex.spec.bits_per_sample, spec_ex.bytes_per_sample)?;
-        if container.length == usize::from(spec_ex.bytes_per_sample) {
-            Ok(container)
-        } else {
-            Err(Error::Unsupported)
+        if container.length != u32::from(spec_ex.bytes_per_sample) {
+            return Err(Error::Unsupported);
         }
+        Ok(container)
     }
 }
 
 impl io::Write for Container {
     #[inline]
     fn write(&mut self, bytes: &[u8]) -> io::Result<usize> {
-        self.bytes.iter_mut().skip(self.length).zip(bytes).for_each(|(slot, byte)| *slot = *byte);
-        self.length += bytes.len();
+        for byte in bytes {
+            self.number |= u64::from(*byte) << (8 * self.length.min(4));
+            self.length += 1;
+        }
         Ok(bytes.len())
     }
 
@@ -186,7 +187,7 @@ impl Proved for Container {
 
     #[inline(always)]
     fn encode(self, _: u16, _: u16) -> spec::Result<[u8; 4]> {
-        Ok(self.bytes)
+        Ok((self.number as u32).to_le_bytes())
     }
 }
 

@@ -4,7 +4,7 @@ use crate::proved::durable::Durable;
 use crate::proved::spec::{self, header_of};
 use crate::proved::walk::{error_of, read_until_data, FileHead};
 use crate::proved::writer::append::append_at;
-use crate::proved::writer::{beginning_effect, BeginningEffect, Recorder, RecorderError};
+use crate::proved::writer::{beginning_effect, BeginningEffect, FoundFile, Recorder, RecorderError};
 use crate::repair::find;
 use crate::sample::Writer;
 use crate::{Error, Result, Sample, SampleFormat, WavSpec, WavSpecEx};
@@ -185,9 +185,8 @@ impl WavWriter<io::BufWriter<fs::File>> {
         WavWriter::after(Target::Plain(Output::of_file(unbuffered(file), None)), head, Some(length))
     }
 
-    /// Creates a file that survives a loss of power (own). When this returns, a WAV file without samples and its
-    /// name are on the disk, and after a `flush` all samples are: it syncs them before the sizes that count them,
-    /// and then these.
+    /// Creates a file that survives a loss of power (own). When this returns, a WAV file without samples and its name
+    /// are on the disk, and after a `flush` all samples: it syncs them before the sizes that count them, then these.
     ///
     /// A file that there was is emptied once its folder is synced (Windows syncs no folders). Until the writer is
     /// dropped, another one that is durable, or a repair of the file, is an error (`WouldBlock`), if the file system
@@ -222,7 +221,7 @@ impl WavWriter<io::BufWriter<fs::File>> {
         file.sync_all()?;
         let found = find(&file)?;
         Recorder::resume(found, false, false)?;
-        let (spec_ex, data_length, data_start) = (found.spec_ex, found.data_length, found.data_start);
+        let FoundFile { spec_ex, data_length, data_start, .. } = found;
         WavWriter::over(append_at(durable(file)?, FileHead { spec_ex, data_length, data_start }))
     }
 }
