@@ -408,7 +408,7 @@ fn a_state_is_a_sentence_for_a_user(rt: HostRuntime) -> Result<(), Fail> {
     let said = format!(in rt.alloc(); "{whole}; {cut_off}; {followed}; {all_counted}")?;
     let wanted = "the file is whole; the recording was cut off; \
         something follows the data, so they weren't cut off; \
-        all samples are counted, and only the RIFF size differs";
+        all samples are counted, and only the RIFF size or the pad byte differs";
     assert_eq!(rt; said.as_str(), wanted);
     Ok(())
 }
