@@ -504,7 +504,7 @@ def mend_puts_the_sizes_of_sox(example):
                 same(file.read(), wanted, f"{sizes} {words}")
     # All samples of these are counted, and only the RIFF size is wrong: they stay as they are, unless all to the end
     # is taken for samples.
-    counted = "all samples are counted, and only the RIFF size differs"
+    counted = "all samples are counted, and only the RIFF size or the pad byte differs"
     for torn in THREE[:4] + bytes(4) + THREE[8:], THREE[:4] + bytes(4) + THREE[8:89]:
         with open(path, "wb") as file:
             file.write(torn)
