@@ -32,7 +32,7 @@ page() { # LANGUAGE [PAGE [HEADING]]
 # Lines that name what a check has passed over, out of what it wrote, that of unittest included.
 passed_over() {
     sed -nE -e "s/^.*(passed over, since .*)$/$subject: \\1/p" \
-        -e "s/^(test[^ ]*) .* skipped ['\"](.*)['\"]$/$subject: passed over, since \\2: \\1/p" "$work/log"
+        -e "s/^(.*) \.\.\. skipped ['\"](.*)['\"]$/$subject: passed over, since \\2: \\1/p" "$work/log"
 }
 
 # Runs a command; its output is written where it fails.
