@@ -192,10 +192,10 @@ static damage damage_of(const contents *file, int is_to_end) {
     /* A byte of 0 after whole frames of an odd length is their pad byte. */
     if (counted % 2 == 1 && counted % header.frame == 0 && file->length == end + 1 && file->bytes[end] == 0)
         found.held = counted;
-    int is_right = counted == found.held;
-    if (is_right && header.riff == header.start - 8 + padded(counted)) found.state = HOUND_WHOLE;
-    else if (!is_to_end && (has_tag(file, end) || has_tag(file, end + counted % 2)))
+    int is_right = counted == found.held, lacks_pad = counted % 2 == 1 && file->length == end;
+    if (!is_to_end && (has_tag(file, end) || has_tag(file, end + counted % 2)))
         found.state = HOUND_HAS_CHUNKS_AFTER_DATA, found.held = counted - counted % header.frame;
+    else if (is_right && header.riff == header.start - 8 + padded(counted) && !lacks_pad) found.state = HOUND_WHOLE;
     else if (is_right) found.state = HOUND_ALL_COUNTED;
     return found;
 }

@@ -6,6 +6,7 @@ power may leave; each is repaired again. Wrong versions have to be found.
 
 usage: repairs.py [cargo] [short]     (with the package hound_bindings on the path, strace, and cc or cargo)
 With `short` it tries a fifth of the files, and all else as without."""
+import errno
 import fcntl
 import itertools
 import os
@@ -319,8 +320,8 @@ def written(contents, calls):
 
 
 def are_wanted(contents, how, before):
-    """Whether these are what a repair has to leave. Where one ended before the pad byte, which is written last, both
-    sizes are right, so that another one leaves it out."""
+    """Whether these are what a repair has to leave. Where one ended before the pad byte, which is written last, all
+    samples are counted, and a repair leaves such a file as it is."""
     wanted = repaired_by_model(how, before)[1]
     start = before.index(b"data") + 8
     has_pad = wanted[start - 4] % 2 == 1 and len(wanted) > len(before)
@@ -361,6 +362,7 @@ def check_calls(program, path, how, before):
             else:
                 is_right = ran.returncode == -signal.SIGKILL if "KILL" in fault else is_error(ran)
                 is_right = is_right and left == written(before, calls[:at])
+                is_right = is_right and ("EIO" not in fault or os.strerror(errno.EIO) in ran.stderr.decode())
             if not is_right:
                 raise Wrong(f"{what}: {ran}")
             if "retval" in fault:
