@@ -241,8 +241,8 @@ const REPORTED = ["frames", "dataStart", "state", "counted", "leftOver", "dataLe
     than its own, would be ignored: so a file would be emptied that `exclusive` was to keep. */
 function checkedOptions(options, names, ignored = []) {
   const other = Object.keys(options).find((name) => !names.includes(name) && !ignored.includes(name));
-  if (other !== undefined) throw new TypeError(`${other} is no option of this argument, which has ${names.join(", ") || "none"}`);
-  return options;
+  if (other === undefined) return options;
+  throw new TypeError(`${other} is no option of this argument, which has ${names.join(", ") || "none"}`);
 }
 
 function typeNamed(name) {
