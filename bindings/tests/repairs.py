@@ -96,19 +96,20 @@ WRONG = {
 }
 if IN_CARGO:
     SYNC, WRITTEN, READ = "sync(disk)", "Ok(count) => return Ok(count.min(bytes.len())),", "self.0.read(bytes)"
-    INTERRUPTED = "Err(error) if error.kind() == ErrorKind::Interrupted => {}\n"
+    FAILED = "Err(error) => return Err(error),"
+    INTERRUPTED = "Err(error) if error.kind() == ErrorKind::Interrupted => {}\n" + " " * 16 + FAILED
     MEND, TO_END = "repair_by(Task::Repair, filename", "repair_by(Task::RepairToEnd, filename"
     WRONG = {
         "no sync": ("|(disk, sync)| sync(disk)", "|_| Ok(())"),
         "a sync that fails is ignored": (SYNC, SYNC + ".or(Ok(()))"),
-        "a write that fails is ignored": ("Err(error) => return Err(error),", "Err(_) => return Ok(bytes.len()),"),
+        "a write that fails is ignored": (FAILED, "Err(_) => return Ok(bytes.len()),"),
         "a write that is left out": ("match inner.write(bytes) {", "match inner.write(&bytes[..0]).map(|_| 9) {"),
         "a write at another place": ("inner.seek(SeekFrom::Start(to))", "inner.seek(SeekFrom::Start(to + 1))"),
         "a file is only looked at": (MEND, MEND.replace("Repair", "FindDamage")),
         "repair_file_to_end without an effect": (TO_END, MEND),
         "a file with chunks after the data is written": (MEND, TO_END),
         "a short write isn't continued": (WRITTEN, "Ok(_) => return Ok(bytes.len()),"),
-        "an interrupted write isn't continued": (INTERRUPTED, ""),
+        "an interrupted write isn't continued": (INTERRUPTED, FAILED),
         "a read that fails is ignored": (READ, READ + ".or(Ok(0))"),
     }
 
