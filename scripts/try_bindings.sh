@@ -296,15 +296,25 @@ examples() { local name; for name in cat record repair; do "$cc" $strict "bindin
 rows() { "$python" bindings/tests/rows.py "$work/cat" "$work/record"; }
 cargo_tests() { cargo test -q --offline --manifest-path "bindings/$1/Cargo.toml" --target-dir "$work/target";
     } # rust or hound
-# The first cargo that builds for Windows.
-cargo_of_windows() {
+# The first cargo that builds for a target.
+cargo_of() { # TARGET WHAT
     local cargo
     for cargo in $(type -ap cargo); do
-        [ ! -d "$("${cargo%cargo}rustc" --print target-libdir --target x86_64-pc-windows-gnu 2> /dev/null)" ] \
+        [ ! -d "$("${cargo%cargo}rustc" --print target-libdir --target "$1" 2> /dev/null)" ] \
             || { echo "$cargo"; return; }
     done
-    echo "bindings: passed over, since a cargo for Windows isn't here: the Cargo crates there (Debian: cargo, libstd-rust-dev-windows)" >&2
+    echo "bindings: passed over, since a cargo that builds for $1 isn't here: $2" >&2
     return 1
+}
+# A program over the Cargo package hound answers the same where usize has 32 bits.
+cargo_in_32_bits() { # CARGO
+    export RUSTC=${1%cargo}rustc
+    "$1" new -q --vcs none "$work/narrow" && cp bindings/tests/narrow.rs "$work/narrow/src/main.rs" \
+        && printf 'hound = { path = "%s/bindings/hound" }\n' "$top" >> "$work/narrow/Cargo.toml" \
+        && cd "$work/narrow" && "$1" run -q --offline > native && "$1" build -q --offline --target wasm32-wasi || return 1
+    node --no-warnings --input-type=module -e \
+        'import { readFile } from "node:fs/promises"; import { WASI } from "node:wasi"; const wasi = new WASI({ version: "preview1" }); const { instance } = await WebAssembly.instantiate(await readFile("target/wasm32-wasi/debug/narrow.wasm"), { wasi_snapshot_preview1: wasi.wasiImport }); wasi.start(instance);' > narrow \
+        && cmp native narrow
 }
 # Wine ends programs that trace a panic, as Rust does of one within another.
 cargo_on_windows() { # CARGO
@@ -468,8 +478,11 @@ if has cargo "the Cargo crate"; then
     check "Cargo rejects a library of another version" other_version
     check "the tests of the Cargo crate over hound_c.c, which its build compiles" cargo_by_source
     if has wine "the Cargo crates on Windows" && has x86_64-w64-mingw32-gcc "the Cargo crates on Windows" \
-        && cargo=$(cargo_of_windows); then
+        && cargo=$(cargo_of x86_64-pc-windows-gnu "the Cargo crates on Windows (Debian: libstd-rust-dev-windows)"); then
         check "the tests of both Cargo crates on Windows" cargo_on_windows "$cargo"
+    fi
+    if has node "hound in 32 bits" && cargo=$(cargo_of wasm32-wasi "hound in 32 bits (Debian: libstd-rust-dev-wasm32)"); then
+        check "a program over the Cargo package hound, where usize has 32 bits" cargo_in_32_bits "$cargo"
     fi
     check "a program written for hound, which adds that package from a clone" user_of_hound
     check "the same after cargo vendor" vendored
