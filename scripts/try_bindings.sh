@@ -311,7 +311,8 @@ cargo_in_32_bits() { # CARGO
     export RUSTC=${1%cargo}rustc
     "$1" new -q --vcs none "$work/narrow" && cp bindings/tests/narrow.rs "$work/narrow/src/main.rs" \
         && printf 'hound = { path = "%s/bindings/hound" }\n' "$top" >> "$work/narrow/Cargo.toml" \
-        && cd "$work/narrow" && "$1" run -q --offline > native && "$1" build -q --offline --target wasm32-wasi || return 1
+        && cd "$work/narrow" && "$1" run -q --offline > native \
+        && "$1" build -q --offline --target wasm32-wasi || return 1
     node --no-warnings --input-type=module -e \
         'import { readFile } from "node:fs/promises"; import { WASI } from "node:wasi"; const wasi = new WASI({ version: "preview1" }); const { instance } = await WebAssembly.instantiate(await readFile("target/wasm32-wasi/debug/narrow.wasm"), { wasi_snapshot_preview1: wasi.wasiImport }); wasi.start(instance);' > narrow \
         && cmp native narrow
@@ -481,7 +482,8 @@ if has cargo "the Cargo crate"; then
         && cargo=$(cargo_of x86_64-pc-windows-gnu "the Cargo crates on Windows (Debian: libstd-rust-dev-windows)"); then
         check "the tests of both Cargo crates on Windows" cargo_on_windows "$cargo"
     fi
-    if has node "hound in 32 bits" && cargo=$(cargo_of wasm32-wasi "hound in 32 bits (Debian: libstd-rust-dev-wasm32)"); then
+    if has node "hound in 32 bits" \
+        && cargo=$(cargo_of wasm32-wasi "hound in 32 bits (Debian: libstd-rust-dev-wasm32)"); then
         check "a program over the Cargo package hound, where usize has 32 bits" cargo_in_32_bits "$cargo"
     fi
     check "a program written for hound, which adds that package from a clone" user_of_hound
