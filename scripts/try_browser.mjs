@@ -417,7 +417,12 @@ async function firefox() {
     drop: screen && (async (file) => {
       const {x, y} = await evaluate(middleOf("#drop")),
                 corner = await evaluate("({ x: mozInnerScreenX, y: mozInnerScreenY })");
-      await screen.drag(file, {x: corner.x + x, y: corner.y + y});
+      await evaluate("globalThis.isDropped = false, addEventListener('drop', () => isDropped = true, true)");
+      // On a busy computer the window may not have seen the pointer yet when its button is released.
+      for (let attempts = 0; attempts < 3 && !await evaluate("isDropped"); attempts++) {
+        await screen.drag(file, {x: corner.x + x, y: corner.y + y});
+        for (let i = 0; i < 50 && !await evaluate("isDropped"); i++) await pause(50);
+      }
     }),
     click: async (selector) => act({
       type: "pointer",
