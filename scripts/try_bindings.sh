@@ -157,6 +157,8 @@ installed() { # PREFIX
     "$cc" $strict bindings/tests/calls.c $words -o "$1.calls" && rm "$1/lib/libhound_c.so" \
         && LD_LIBRARY_PATH=$1/lib $run "$1.calls" \
         && ln -s libhound_c.so.0 "$1/lib/libhound_c.so" && cp -a "$1" "$1.copy" && touch "$1.copy/lib/other" || return 1
+    ! command -v dash > /dev/null \
+        || { ! dash bindings/c/install.sh "$1" 2> "$1.said" && grep -q "needs bash" "$1.said"; } || return 1
     cmp bindings/c/hound_file.h "$1/include/hound_file.h" && bindings/c/install.sh --help | grep -q uninstall \
         && bindings/c/install.sh --uninstall "$1.copy" && [ "$(cd "$1.copy" && find . ! -type d)" = ./lib/other ]
 }

@@ -7,6 +7,7 @@
 #   install.sh --help
 # With HOUND_C_LIB in the environment it takes the library of that folder. Where bindings/lib has none that this
 # processor runs, or with HOUND_C_SOURCE, it compiles hound_c.c. CC has the words of the compiler, AR the archiver.
+[ -n "${BASH_VERSION:-}" ] || { echo "install: this script needs bash: bash $0 PREFIX" >&2; exit 2; }
 set -eu
 here=$(cd "$(dirname "$0")" && pwd)
 usage() { sed -n '/^# /s/^# *//p' "$0"; }
