@@ -23,16 +23,27 @@ pub enum Error {
 /// The result of a call.
 pub type Result<T> = result::Result<T, Error>;
 
+impl Error {
+    // What an error says that has nothing else to say; as a sentence it has a capital and a full stop.
+    fn says(&self) -> &str {
+        match self {
+            Self::IoError(_) => "",
+            Self::FormatError(reason) => reason,
+            Self::TooWide => "the sample has more bits than the destination type",
+            Self::UnfinishedSample => "the number of samples written is not a multiple of the number of channels",
+            Self::Unsupported => "the wave format of the file is not supported",
+            Self::InvalidSampleFormat => "the sample format differs from the destination format",
+        }
+    }
+}
+
 impl fmt::Display for Error {
     fn fmt(&self, formatter: &mut fmt::Formatter<'_>) -> fmt::Result {
-        formatter.write_str(match self {
-            Error::IoError(error) => return error.fmt(formatter),
-            Error::FormatError(reason) => return write!(formatter, "Ill-formed WAVE file: {reason}"),
-            Error::TooWide => "The sample has more bits than the destination type.",
-            Error::UnfinishedSample => "The number of samples written is not a multiple of the number of channels.",
-            Error::Unsupported => "The wave format of the file is not supported.",
-            Error::InvalidSampleFormat => "The sample format differs from the destination format.",
-        })
+        match self {
+            Error::IoError(error) => error.fmt(formatter),
+            Error::FormatError(reason) => write!(formatter, "Ill-formed WAVE file: {reason}"),
+            _ => write!(formatter, "T{}.", &self.says()[1..]),
+        }
     }
 }
 
@@ -42,11 +53,7 @@ impl error::Error for Error {
     fn description(&self) -> &str {
         match self {
             Error::IoError(error) => error.description(),
-            Error::FormatError(reason) => reason,
-            Error::TooWide => "the sample has more bits than the destination type",
-            Error::UnfinishedSample => "the number of samples written is not a multiple of the number of channels",
-            Error::Unsupported => "the wave format of the file is not supported",
-            Error::InvalidSampleFormat => "the sample format differs from the destination format",
+            _ => self.says(),
         }
     }
 
