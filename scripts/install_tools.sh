@@ -45,7 +45,7 @@ fi
 echo "install_tools: installing ${wanted[*]}"
 log=$(mktemp)
 trap 'rm -f "$log"' EXIT
-apt_get() { apt-get -qq -o Acquire::Retries=5 --no-install-recommends "$@" > "$log" 2>&1; }
+apt_get() { apt-get -qq -o Acquire::Retries=5 -o DPkg::Lock::Timeout=300 --no-install-recommends "$@" > "$log" 2>&1; }
 apt_get update || echo "install_tools: apt-get update: $(tail -n 1 "$log")"
 # All at once takes less time; one by one, where one of them isn't there, says which.
 status=0
