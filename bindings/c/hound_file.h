@@ -435,7 +435,7 @@ static inline int64_t hound_file_chunk(const char *name, const uint8_t *content,
    hound_file_create_with. It has as many bytes as the chunks and at most HOUND_HEADER_BYTES + HOUND_FILLER_BYTES more,
    and all four bytes of the data length are in one sector of a disk, which a power failure stores whole or not. Returns
    how many they are; HOUND_NOT_WRITABLE; HOUND_NO_ROOM; HOUND_TOO_LONG; or HOUND_NO_DATA_CHUNK where these bytes aren't
-   whole chunks, or one of them is another "fmt " or "data". */
+   whole chunks, or one of them is "data", or a "fmt " of another spec. */
 static inline int64_t hound_file_header(const hound_spec *spec, const uint8_t *chunks, size_t length, uint8_t *out,
                                         size_t capacity) {
     uint8_t head[HOUND_HEADER_BYTES], sizes[8];
