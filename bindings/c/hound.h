@@ -437,7 +437,7 @@ int32_t hound_recorder_resume(const hound_repair_t *found, uint32_t allowed, hou
 
 /* Requests that a block of so many samples is written, as hound_encode_.. gives them: whole frames, which have
    room. A block that is under way is given up, and one that wasn't reported may be in the file in part: it is cut
-   off. Returns 0 or an error, and then nothing is requested. */
+   off. Returns 0, or an error, and then no block is requested; a checkpoint that is under way continues. */
 int32_t hound_recorder_write(hound_recorder *recorder, uint64_t samples) HOUND_NONNULL;
 
 /* Requests a checkpoint of all that is written. */

@@ -1,6 +1,6 @@
 -- What a loss of power leaves of a file within its beginning.
 use Rattle.std.proofs.lemmas.Grind.{common_steps}
-use Rattle.std.proofs.Common.{◌≡◌, ℕ, zero, suc, ◌+◌, ◌-◌, ◌/◌, ◌<◌, ◌≤◌, true, List, [], ◌∷◌, ◌++◌, length, get_or, take, drop, Result, refl, ◌∙◌, ap, subst, arith, append_assoc, length-append, length-drop, length-take}
+use Rattle.std.proofs.Common.{◌≡◌, ◌⊎◌, ◌&&◌, Option, None, Some, Ok, Err, is_ok, sym, false, ℕ, zero, suc, ◌+◌, ◌-◌, ◌/◌, ◌<◌, ◌≤◌, true, List, [], ◌∷◌, ◌++◌, length, get_or, take, drop, Result, refl, ◌∙◌, ap, subst, arith, append_assoc, length-append, length-drop, length-take}
 use Rattle.std.proofs.lemmas.Bool.{cases_lt}
 use Rattle.std.proofs.lemmas.List.{get_or_append_left, get_or-append_right, get_or_past, get_or-take, get_or-drop}
 use Rattle.std.specs.declared.io.Error.{Error as IoFault}
@@ -11,7 +11,7 @@ use Rattle.hound_spec.proofs.HeaderLemmas.{data_start_least, described, header-p
 use Rattle.hound_medium.specs.{MediumState, moment, overlay, placed}
 use Rattle.hound_medium.proofs.Overlays.{length-put_at, overlay_at_end, take-placed}
 use Rattle.hound_durable.specs.{SurvivesLoss}
-use Rattle.hound_writer.specs.{DoesBeginnings, Opened, beginning, field}
+use Rattle.hound_writer.specs.{DoesBeginnings, HasAtMostHeader, LeavesBeginning, Opened, Remains, beginning, field, stores_name}
 pub use Rattle.hound_repair.proofs.Performing.{nth_next}
 use Rattle.hound_writer.proofs.Opening.{front_begun}
 
@@ -65,8 +65,25 @@ module _ (s : WavSpecEx) (front rest : List ℕ) (parts : front ++ rest ≡ head
         at_moment,
       )
 
+  -- what was written of it is the header's, and zeros are elsewhere
+  left_byte : (j i : ℕ) → (get_or (moment [] (placed 0 front) j) i 0 ≡ get_or (header s 0 0) i 0)
+      ⊎ (get_or (moment [] (placed 0 front) j) i 0 ≡ 0)
+  left_byte j i =
+      grind (
+        arith,
+        common_steps,
+        get_or,
+        length-take,
+        cases_lt,
+        get_or_append_left,
+        get_or_past,
+        get_or-take,
+        parts,
+        at_moment,
+      )
+
   begins_left : (sector f k : ℕ) (left : List ℕ) → SurvivesLoss sector [] (placed 0 front) f k left
-      → (length left ≤ data_start s) × (field (data_start s - 4) left ≡ 0)
+      → HasAtMostHeader s left
   begins_left sector f k left lost =
       let p = data_start s - 4 in
       let l = lost.long in
@@ -78,15 +95,18 @@ module _ (s : WavSpecEx) (front rest : List ℕ) (parts : front ++ rest ≡ head
         ap length parts,
         length-append front rest,
         length-header s 0 0,
-      ) in (
-        few,
-        zero_number (take 4 (drop p left)) (λ i less. let inside : p + i < length left =
+      ) in record {
+        long = few;
+        bytes = λ i less.
+            let (j, low, high, from) = lost.sectors (i / sector) in
+            subst (λ b. (b ≡ get_or (header s 0 0) i 0) ⊎ (b ≡ 0)) (sym (from i refl less)) (left_byte j i);
+        none = zero_number (take 4 (drop p left)) (λ i less. let inside : p + i < length left =
             omega (arith, less, length-take 4 (drop p left), length-drop p left) in
             let four : i < 4 = omega (arith, less, length-take 4 (drop p left)) in
             let from = lost.sectors ((p + i) / sector) in
             get_or-take 4 (drop p left) i 0 four ∙ get_or-drop p left i 0 ∙ from.3 (p + i) refl inside
-            ∙ left_zero from.0 (p + i) (omega arith)),
-      )
+            ∙ left_zero from.0 (p + i) (omega arith));
+      }
 
 -- contents get no shorter as bytes are written
 nothing_before : (c : List ℕ) (past : List (ℕ × ℕ)) → overlay c past ≡ [] → (c ≡ []) × (past ≡ [])
@@ -96,13 +116,19 @@ nothing_before c (e ∷ past) none =
     let next = nothing_before _ past none in
     absurd (omega (arith, ap length next.0, length-put_at e.0 e.1 c))
 
+-- only an error may leave no file, since the name is stored first
+no_file : (result : Result (Unit {0}) IoFault) → (is_ok result && stores_name beginning) ≡ false → is_ok result ≡ false
+no_file (Ok x) is = is
+no_file (Err e) is = refl
+
 pub begun_survives : (s : WavSpecEx) (old new : MediumState) (result : Result (Unit {0}) IoFault)
-    → overlay old.start old.past ≡ [] → DoesBeginnings true s beginning result old new → (sector : ℕ) (left : List ℕ)
-    → SurvivesLoss sector new.start new.past new.flushed (length new.past) left
-    → (length left ≤ data_start s) × (field (data_start s - 4) left ≡ 0)
-begun_survives s old new result none does sector left lost =
-    let b = front_begun s result old new does in
+    → overlay old.start old.past ≡ [] → DoesBeginnings true s beginning result old new → (sector : ℕ)
+    (left : Option (List ℕ)) → Remains (is_ok result && stores_name beginning) sector new left
+    → LeavesBeginning result s left
+begun_survives s old new result none does sector None lost = no_file result lost
+begun_survives s old new result none does sector (Some left) lost =
     let (start, past) = nothing_before old.start old.past none in
+    let b = front_begun s result old new start past does in
     let started : new.start ≡ [] = b.start ∙ start in
     let put : new.past ≡ placed 0 b.front = b.past ∙ ap (λ l. l ++ placed 0 b.front) past in
     begins_left s b.front b.rest b.parts sector new.flushed (length new.past) left

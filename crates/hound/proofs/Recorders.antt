@@ -13,7 +13,7 @@ use Rattle.hound_durable.specs.{SurvivesLoss}
 use Rattle.hound_writer.specs.{AgreeTo, Begun, Call, Counts, Directed, IsIdle, IsRecorderOf, accepted_samples, end_of, IsOrdered, IsSynced, Known, Log, Recorded, WriterState, field, found_in, handed_in, log_kind, start_of}
 use Rattle.hound_writer.specs.declared.recorder.Recorder.{Recorder}
 use Rattle.hound_writer.proofs.Directing.{at_none}
-pub use Rattle.hound_writer.proofs.Acting.{same_next}
+pub use Rattle.hound_writer.proofs.Acting.{not_done, one_next}
 pub use Rattle.hound_writer.proofs.Directing.{performed_all, performed_more, readable_frames}
 use Rattle.hound_writer.proofs.Samples.{length_written}
 use Rattle.hound_writer.proofs.Heads.{head_front}
@@ -129,14 +129,14 @@ module _ (s : WavSpecEx) (file : Begun) (known : List Known) (r : Recorder) wher
       → (log : Log) × (log.state ≡ m) × Kept log_kind s file known log
   directed_kept m directed none =
       let d = directed.in_step in
-      let (done, same) = at_none r d.result d.writer.medium d.log none d.performed in
+      let same = at_none r d.writer.medium d.log none d.performed in
       (d.writer.medium, ap log_kind.state (sym same) ∙ d.state, kept s file known d.writer d.recorded)
 
   pub directed_survives : (m : MediumState) → Directed s file known r m → r.number ≡ 0 → IsSynced (handed_in file)
       → (log : Log) × (log.state ≡ m) × KeptWithin log_kind s file known log m
   directed_survives m directed none synced =
       let d = directed.in_step in
-      let (done, same) = at_none r d.result d.writer.medium d.log none d.performed in
+      let same = at_none r d.writer.medium d.log none d.performed in
       let here : d.writer.medium.state ≡ m = ap log_kind.state (sym same) ∙ d.state in
       let (high, order, low) = d.order synced in (
         d.writer.medium,
@@ -156,7 +156,7 @@ module _ (s : WavSpecEx) (file : Begun) (known : List Known) (r : Recorder) wher
   directed_cut m directed none =
       let d = directed.in_step in
       let w = d.writer in
-      let (done, same) = at_none r d.result w.medium d.log none d.performed in
+      let same = at_none r w.medium d.log none d.performed in
       let here : w.medium.state ≡ m = ap log_kind.state (sym same) ∙ d.state in
       let kept = kept s file known w d.recorded in
       let (at, long) = ends_at s file known w d.recorded d.idle in
@@ -189,7 +189,7 @@ module _ (s : WavSpecEx) (file : Begun) (known : List Known) (r : Recorder) wher
   directed_cut_survives m directed none synced =
       let d = directed.in_step in
       let w = d.writer in
-      let (done, same) = at_none r d.result w.medium d.log none d.performed in
+      let same = at_none r w.medium d.log none d.performed in
       let here : w.medium.state ≡ m = ap log_kind.state (sym same) ∙ d.state in
       let (high, order, low) = d.order synced in
       let (at, long) = ends_at s file known w d.recorded d.idle in

@@ -21,7 +21,7 @@ pub use Rattle.hound_walk.specs.declared.cause.HeadError.{HeadError}
 pub use Rattle.hound_walk.specs.declared.cause.Reason.{Reason}
 pub use Rattle.hound_walk.specs.declared.chunks.FileHead.{FileHead}
 pub use Rattle.hound_reader.specs.{AnswersNext, AnswersRead, AnswersReadMany, AnswersSamples, AreContainers, AreItems, CountsTaken, FindsSamples, GivesItem, GivesItems, GivesItemsOfBytes, HasGiven, HasGiven-prop, HasSoundCounts, HasWholeFrames, IsNext, IsNotOpened, OpensSource, ReaderState, ReadsBlock, TookBytes, block_bytes, further, meaning_at, over_bytes, rejection_at, requested, samples_left, taken_without, LendsNext, TakesNext, lender, lent_reader, taken_reader, Follows, HasSought, IsAtCount, IsMeaningOf, IsWhereCounted, PassesItem, ReadsInPlace, Recounts, Seeks, bytes_before, container_at, count_after, samples_before, way_to, AreFirstSamples, EndsEarly, GetsAll, GetsBlock, IsCauseOf, IsCutAfter, IsGetError, IsReasonOf, PassesBytes}
-pub use Rattle.hound_writer.specs.{AcceptAnswer, Accepts, AcceptsBytes, AcceptsEach, Adds, AddsAtEach, AddsToFile, AreI16, FitAnswer, IsIoError, IsPublishing, IsStored, OnPublished, OnRejected, StaysStored, StaysTrue, UnlessFailed, container_in, containers_in, faults_reported, i16_bytes, if_marked, mark_of, one, sample_bytes, whole_containers, AnswersAppend, AppendAnswer, AppendFault, Appends, FailsCheck, FollowsData, HasOneAppendAnswer, IsAppendFault, IsFileError, IsMediumError, IsNotAppended, NamesFault, PutsNothing, appendable, by_bytes, faulty, too_long, IsSameFile, WritesToBatch, batch_bytes, batch_lender, batch_writer, remaining, Begins, BeginsFile, BeginsWith, DoesBeginning, DoesBeginnings, HasBegun, IsNotBegun, PutsHeader, at_beginning, beginning, header_part, CountsAtMost, GoesAtEach, GoesOut, GoesToFile, HasSize, IsConsistent, IsLimit, IsPatched, IsPublishResult, Patches, PatchesAtEach, PutsAt, StaysAround, after_out, all_out, as_error, memory_bytes, of_fields, AreKnown, Asked, Begun, Call, Does, Ends, Extends, HadData, HasSameCalls, IsKnown, IsSeen, Known, Lead, LeftBy, Opens, RecordedBy, Seen, appended, asked_by_all, found_in, handed_in, made, mark_seen, marked, new_file, publish, result_seen, returned, start_of, unseen, with_memory, write, AreFrames, ChangesSizesOnly, Counts, Ghosts, HasHeader, HasRoom, HasSameSamples, IsBegun, IsCounted, IsPadded, IsSixteen, IsSound, IsValid, IsWhole, ReadsFirst, SameButSizes, WriterState, accepted_bytes, accepted_samples, block_length, data_end, data_length, field, padded_end, sample_count, Checkpoints, Finishes, IsHalfPublished, IsOldOrNew, IsOutside, LeavesWriter, OncePutBefore, Publishes, PublishesAtEach, PublishesTo, PutsFrom, PutsLast, ReadsAs, place_after, Log, Performed, Performs, checkpoint, log_kind, nth, pad_effects, size_effects, Abandons, Advances, AppendsRecorder, AsksForBlock, AsksForCheckpoint, BeginsRecorder, CutsOff, EffectEnds, EndsEffect, GivesUp, GoesOn, HadNothing, HandsOut, HasBlock, HasCleaned, HasCut, HasData, HasEffect, HasEnded, HasFailed, HasNoData, HasNothing, HasPerformed, HasRoomFor, HasSaved, HasStopped, HasWritten, IsAlive, IsClear, IsDue, IsSaving, LeavesRoom, MaySave, NextEffect, Saves, SavesFirst, Settles, TakesBlock, ThenGoesOn, advanced, after_block, cuts_next, doubted, effects_of, end_of, end_place, given_up, is_sound, length_with, recorder_of, ContinuesAfter, Resumes, ResumesAfter, ends_whole, found_frame, kept_as, kept_length, rest_follows, resumed_recorder, AgreeTo, Directed, HasPlace, HasRoomTo, InStep, IsCutOff, IsIdle, IsOrdered, IsRecorderOf, IsSynced, Opened, Resumed, block_known, cut_known, resumed_file, writer_of, IsSaid, Repeats, written_first}
+pub use Rattle.hound_writer.specs.{AcceptAnswer, Accepts, AcceptsBytes, AcceptsEach, Adds, AddsAtEach, AddsToFile, AreI16, FitAnswer, IsIoError, IsPublishing, IsStored, OnPublished, OnRejected, StaysStored, StaysTrue, UnlessFailed, container_in, containers_in, faults_reported, i16_bytes, if_marked, mark_of, one, sample_bytes, whole_containers, AnswersAppend, AppendAnswer, AppendFault, Appends, FailsCheck, FollowsData, HasOneAppendAnswer, IsAppendFault, IsFileError, IsMediumError, IsNotAppended, NamesFault, PutsNothing, appendable, by_bytes, faulty, too_long, IsSameFile, WritesToBatch, batch_bytes, batch_lender, batch_writer, remaining, Begins, BeginsFile, BeginsWith, DoesBeginning, DoesBeginnings, Empties, HasAtMostHeader, HasBegun, IsEmpty, IsNotBegun, LeavesBeginning, PutsHeader, Remains, at_beginning, beginning, header_part, stores_name, CountsAtMost, GoesAtEach, GoesOut, GoesToFile, HasSize, IsConsistent, IsLimit, IsPatched, IsPublishResult, Patches, PatchesAtEach, PutsAt, StaysAround, after_out, all_out, as_error, memory_bytes, of_fields, AreKnown, Asked, Begun, Call, Does, Ends, Extends, HadData, HasSameCalls, IsKnown, IsSeen, Known, Lead, LeftBy, Opens, RecordedBy, Seen, appended, asked_by_all, found_in, handed_in, made, mark_seen, marked, new_file, publish, result_seen, returned, start_of, unseen, with_memory, write, AreFrames, ChangesSizesOnly, Counts, Ghosts, HasHeader, HasRoom, HasSameSamples, IsBegun, IsCounted, IsPadded, IsSixteen, IsSound, IsValid, IsWhole, ReadsFirst, SameButSizes, WriterState, accepted_bytes, accepted_samples, block_length, data_end, data_length, field, padded_end, sample_count, Checkpoints, Finishes, IsHalfPublished, IsOldOrNew, IsOutside, LeavesWriter, OncePutBefore, Publishes, PublishesAtEach, PublishesTo, PutsFrom, PutsLast, ReadsAs, place_after, Log, Performed, Performs, checkpoint, log_kind, nth, pad_effects, size_effects, Advances, AppendsRecorder, AsksForBlock, AsksForCheckpoint, BeginsBlock, BeginsRecorder, CanSave, CannotSave, CutsOff, EffectEnds, EndsEffect, GivesUp, GoesOn, HadNothing, HasBlock, HasCleaned, HasCut, HasData, HasEffect, HasEnded, HasNext, HasNoData, HasNoNext, HasNothing, HasPerformed, HasRoomFor, HasSaved, HasStopped, HasWritten, IsAlive, IsClear, IsSaving, LeavesRoom, MaySave, RejectsBlock, Settles, TakesBlock, ThenGoesOn, after_block, cuts_next, doubted, effects_of, end_of, end_place, error_for, given_up, health_after, is_sound, length_with, once_rejected, recorder_of, saved, stopped, ContinuesAfter, Resumes, ResumesAfter, ends_whole, found_frame, kept_as, kept_length, rest_follows, resumed_recorder, AgreeTo, Directed, HasPlace, HasRoomTo, InStep, IsCutOff, IsIdle, IsOrdered, IsRecorderOf, IsSynced, Opened, Resumed, block_known, cut_known, resumed_file, writer_of, IsSaid, Repeats, written_first}
 unfoldable pub use Rattle.hound_writer.specs.{head_fault, Left, Recorded, with_sizes}
 pub use Rattle.hound_writer.specs.declared.effects.Action.{Action}
 pub use Rattle.hound_writer.specs.declared.effects.BeginningEffect.{BeginningEffect}

@@ -1,5 +1,5 @@
 // What holds for every run.
-ghost use Rattle.std.specs.Prelude.{◌≡◌, ◌<◌, ◌≤◌, ◌-◌, ◌/◌, ◌%◌, ℕ, Bool, true, IsTrue, List, [], ◌∷◌, ◌++◌, Ok, Some, Result, is_ok, length, map};
+ghost use Rattle.std.specs.Prelude.{◌≡◌, ◌<◌, ◌≤◌, ◌-◌, ◌/◌, ◌%◌, ℕ, Bool, true, IsTrue, List, [], ◌∷◌, ◌++◌, ◌&&◌, Ok, Option, Some, Result, is_ok, length, map};
 ghost use Rattle.std.specs.List.{AllByRecursion, concat};
 ghost use Rattle.std.specs.declared.io.Error.{Error as IoFault};
 ghost use Rattle.hound_spec.specs.declared.error.Error.{Error};
@@ -9,7 +9,7 @@ ghost use Rattle.hound_number.specs.{mix};
 ghost use Rattle.hound_medium.specs.{MediumState, WhereKeeps, WhereTells, moment, overlay};
 ghost use Rattle.hound_durable.specs.{Ascends, SurvivesLoss, place_of};
 ghost use Rattle.hound_sample.specs.{Rejection, int_container};
-ghost use Rattle.hound_writer.specs.{Advances, mark_of, AcceptAnswer, AcceptsBytes, ChangesSizesOnly, appended, AcceptsEach, i16_bytes, AreKnown, Asked, Begun, Call, IsKnown, Known, Lead, Left, Recorded, returned, sample_count, asked_by_all, found_in, made, marked, new_file, publish, start_of, IsSameFile, Finishes, WriterState, IsWhole, accepted_samples, data_length, IsSound, CountsAtMost, LeavesWriter, PutsAt, ReadsAs, field, Log, Performed, handed_in, log_kind, Directed, IsSynced, AgreeTo, Counts, end_of, IsCutOff, DoesBeginnings, Resumes, beginning, effects_of, writer_of};
+ghost use Rattle.hound_writer.specs.{Advances, mark_of, AcceptAnswer, AcceptsBytes, ChangesSizesOnly, appended, AcceptsEach, i16_bytes, AreKnown, Asked, Begun, Call, IsKnown, Known, Lead, Left, Recorded, returned, sample_count, asked_by_all, found_in, made, marked, new_file, publish, start_of, IsSameFile, Finishes, WriterState, IsWhole, accepted_samples, data_length, IsSound, CountsAtMost, LeavesWriter, PutsAt, ReadsAs, field, Log, Performed, handed_in, log_kind, Directed, IsSynced, AgreeTo, Counts, end_of, IsCutOff, DoesBeginnings, LeavesBeginning, Remains, Resumes, beginning, effects_of, stores_name, writer_of};
 ghost use Rattle.hound_writer.specs.declared.recorder.Recorder.{Recorder};
 ghost use Rattle.hound_writer.specs.declared.resuming.FoundFile.{FoundFile};
 ghost use Rattle.hound_writer.specs.declared.effects.Action.{Action};
@@ -210,7 +210,7 @@ pub fn what_a_loss_leaves<M: Medium>()
 /// of power leaves of it, where it agrees up to there with what one could leave without the cut (`cut_survives`).
 ///
 /// Within the beginning of a file that had no bytes, whatever has failed, a loss of power leaves at most its header, in
-/// which the data length is 0 (`begun`).
+/// which the data length is 0, or no file; once all is done, the file is there (`begun`).
 ///
 /// Of a recording that was cut off, and is mended, a loss of power within the first checkpoint leaves a file that
 /// counts no more than the samples that its recorder keeps, if the file was synced before. These are all, or as many as
@@ -218,8 +218,8 @@ pub fn what_a_loss_leaves<M: Medium>()
 pub fn a_recording_is_kept()
     ensures begun { (s : WavSpecEx) (old new : MediumState) (result : Result Unit IoFault)
         → overlay old.start old.past ≡ [] → DoesBeginnings true s beginning result old new
-        → (sector : ℕ) (left : List ℕ) → SurvivesLoss sector new.start new.past new.flushed (length new.past) left
-        → (length left ≤ data_start s) × (field (data_start s - 4) left ≡ 0) }
+        → (sector : ℕ) (left : Option (List ℕ)) → Remains (is_ok result && stores_name beginning) sector new left
+        → LeavesBeginning result s left }
     ensures kept { (s : WavSpecEx) (file : Begun) (known : List Known) (r : Recorder) (m : MediumState)
         → Directed s file known r m → r.number ≡ 0 → (log : Log) × (log.state ≡ m) × Kept log_kind s file known log }
     ensures survives { (s : WavSpecEx) (file : Begun) (known : List Known) (r : Recorder) (m : MediumState)

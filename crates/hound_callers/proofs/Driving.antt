@@ -3,15 +3,97 @@ use Rattle.std.proofs.lemmas.Bool.{false≢true}
 use Rattle.std.proofs.lemmas.Grind.{common_steps}
 use Rattle.std.specs.declared.io.Error.{Error as IoFault}
 use Rattle.std.proofs.lemmas.List.{append-nil}
-use Rattle.std.proofs.Common.{List, [], ◌∷◌, ◌++◌, length, is_ok, ◌≡◌, ◌⊎◌, ◌<◌, ◌≤◌, ◌+◌, ◌-◌, ℕ, Bool, true, false, inl, inr, Option, None, Some, Result, Ok, Err, refl, sym, ◌∙◌, ap, subst, arith}
+use Rattle.std.proofs.Common.{
+  List,
+  [],
+  ◌∷◌,
+  ◌++◌,
+  length,
+  is_ok,
+  ◌≡◌,
+  ◌⊎◌,
+  ◌<◌,
+  ◌≤◌,
+  ◌+◌,
+  ◌-◌,
+  ℕ,
+  Bool,
+  true,
+  false,
+  inl,
+  inr,
+  Option,
+  None,
+  Some,
+  Result,
+  Ok,
+  Err,
+  refl,
+  sym,
+  ◌∙◌,
+  ap,
+  subst,
+  arith,
+}
 use Rattle.std.specs.Prelude.{⊤}
-use Rattle.hound.specs.{Action, Asked, Begun, Directed, Effect, Known, Log, MediumState, Performs, PutsAt, WavSpecEx, block_known, cut_known, marked, publish, whole_containers, write, EffectEnds, GoesOn, HandsOut, HasData, HasEnded, IsAlive, IsDue, MaySave, NextEffect, Phase, Recorder, RecorderError, Report, Settles, Advances, ThenGoesOn, after_block, cuts_next, doubted, end_place}
+use Rattle.hound.specs.{
+  Action,
+  Asked,
+  Begun,
+  Directed,
+  Effect,
+  Known,
+  Log,
+  MediumState,
+  Performs,
+  PutsAt,
+  WavSpecEx,
+  block_known,
+  cut_known,
+  marked,
+  publish,
+  whole_containers,
+  write,
+  BeginsBlock,
+  CanSave,
+  CannotSave,
+  EffectEnds,
+  EndsEffect,
+  GoesOn,
+  HasEnded,
+  HasNext,
+  HasNoNext,
+  IsAlive,
+  IsClear,
+  MaySave,
+  Phase,
+  Recorder,
+  RecorderError,
+  Report,
+  Settles,
+  Advances,
+  ThenGoesOn,
+  after_block,
+  cuts_next,
+  doubted,
+  end_place,
+  saved as once_saved,
+}
 use Rattle.hound.specs.declared.Action.TheVariants.{Shorten, Perform, Read, WriteBlock}
 use Rattle.hound.specs.declared.Health.TheVariants.{Sound, Suspect}
 use Rattle.hound.specs.declared.Phase.TheVariants.{Idle, Saving, Requested, Writing, Cleaning}
 use Rattle.hound.specs.declared.Report.TheVariants.{Done, Failed, Pending}
-use Rattle.hound.specs.declared.RecorderError.TheVariants.{NotWritable, UnfinishedFrame, TooLong, Truncated, NeedsMend, NeedsOverwrite, NeedsCheckpoint, SyncFailed}
-use Rattle.hound.proofs.Recorders.{same_next}
+use Rattle.hound.specs.declared.RecorderError.TheVariants.{
+  NotWritable,
+  UnfinishedFrame,
+  TooLong,
+  Truncated,
+  NeedsMend,
+  NeedsOverwrite,
+  NeedsCheckpoint,
+  SyncFailed,
+}
+use Rattle.hound.proofs.Recorders.{not_done}
 use Rattle.hound_callers.specs.Recorder.{IsAsked, asked_as, length_after, once_done, report_for}
 
 -- what an action does, whose end is reported: a medium is neither read nor cut off
@@ -92,44 +174,54 @@ pub record Laws (asked : Recorder) (report : Report) (before after : Option Bool
   pub saved : (mid r : Recorder) → asked.phase ≡ Saving → mid.phase ≡ Saving → after None mid → GoesOn mid r (Ok None)
       → after (Some true) r
 
--- what a failed effect leaves
-fails : (after last : Recorder) (error : RecorderError) (n : ℕ) → HasData after after.data_length
-    → NextEffect false after last (Err error) → last.number ≡ 0
-fails after last SyncFailed n has (is, _) = ap (λ (x : Recorder). x.number) is
-fails after last NeedsCheckpoint n has (is, _, _) = ap (λ (x : Recorder). x.number) is
-fails after last NotWritable n has (is, _, none) = grind (arith, common_steps)
-fails after last TooLong n has (is, _, none) = grind (arith, common_steps)
-fails after last UnfinishedFrame n has (is, _, never) = absurd never
-fails after last Truncated n has (is, _, never) = absurd never
-fails after last NeedsMend n has (is, _, never) = absurd never
-fails after last NeedsOverwrite n has (is, _, never) = absurd never
-
 -- what the end of an effect makes of the recorder
 abbrev pub Shape : Result (Unit {0}) RecorderError → Recorder → Recorder → Type 0
 Shape (Ok x) r mid = mid ≡ record r { number = r.number + 1 }
 Shape (Err error) r mid = mid.number ≡ 0
 
-shape_by : (b : Bool) (r after mid : Recorder) (effect : Effect) (outcome : Result (Unit {0}) RecorderError)
-    → NextEffect true r after (Ok (Some effect)) → EffectEnds b r after (Ok (Some effect)) mid outcome
-    → Shape outcome r mid
-shape_by true r after mid effect outcome next (ok, is) = rw ok (is ∙ next.4)
-shape_by false r after mid effect outcome next (last, error, failed, err, is) =
-    let has : HasData after after.data_length = rw next.4 next.2 in
-    rw err (ap (λ (x : Recorder). x.number) is ∙ fails after last error 0 has failed)
+shape_by : (b : Bool) (r mid : Recorder) (effect : Effect) (outcome : Result (Unit {0}) RecorderError)
+    → EffectEnds b effect r mid outcome → Shape outcome r mid
+shape_by true r mid effect outcome (is, ok) = rw ok is
+shape_by false r mid effect outcome (is, err) = rw err (ap (λ (x : Recorder). x.number) is)
+
+-- a checkpoint that can be made isn't rejected
+pub can : (r : Recorder) (error : RecorderError) → CanSave r → CannotSave r error → ⊥
+can r SyncFailed (low, has) dead = low dead
+can r NotWritable (low, has) (_, never) = grind (arith, common_steps)
+can r TooLong (low, has) (_, never) = grind (arith, common_steps)
+can r NeedsCheckpoint given (_, never) = never
+can r UnfinishedFrame given (_, never) = never
+can r Truncated given (_, never) = never
+can r NeedsMend given (_, never) = never
+can r NeedsOverwrite given (_, never) = never
+
+-- a checkpoint of which an effect is next hasn't ended
+abbrev pub EndsNext : Bool → Recorder → Recorder → Result (Unit {0}) RecorderError → Type 0
+EndsNext b r mid outcome = (effect : Effect) × EffectEnds b effect r mid outcome
+
+pub ends_next : (b : Bool) (r mid : Recorder) (effect : Effect) (outcome : Result (Unit {0}) RecorderError)
+    → HasNext effect r → EndsEffect b r mid outcome → EndsNext b r mid outcome
+ends_next b r mid effect outcome next (inl (other, _, ends)) = (other, ends)
+ends_next b r mid effect outcome next (inr (inl (none, _, _))) = absurd (not_done r effect next none)
+ends_next b r mid effect outcome next (inr (inr (error, cannot, _, _))) = absurd (can r error next.0 cannot)
+
+pub ended_next : (b : Bool) (r mid : Recorder) (effect : Effect) (outcome : Result (Unit {0}) RecorderError)
+    → r.phase ≡ Saving → r.has_rest ≡ false → GoesOn r r (Ok (Some (Perform effect))) → HasEnded b r mid outcome
+    → EndsNext b r mid outcome
+ended_next b r mid effect outcome saving rest goes (inl (none, _, _)) = cc (saving, none)
+ended_next b r mid effect outcome saving rest goes (inr (inl (cleaning, _, _))) = cc (saving, cleaning)
+ended_next b r mid effect outcome saving rest goes (inr (inr (inl (_, _, cuts, _, _)))) =
+    absurd (false≢true (sym rest ∙ cuts))
+ended_next b r mid effect outcome saving rest goes (inr (inr (inr (inl (n, writing, _, _, _))))) = cc (saving, writing)
+ended_next b r mid effect outcome saving rest (_, next, _) (inr (inr (inr (inr (_, _, ends))))) =
+    ends_next b r mid effect outcome next ends
 
 pub shape : (b : Bool) (r mid : Recorder) (effect : Effect) (outcome : Result (Unit {0}) RecorderError)
     → r.phase ≡ Saving → r.has_rest ≡ false → GoesOn r r (Ok (Some (Perform effect))) → HasEnded b r mid outcome
     → Shape outcome r mid
-shape b r mid effect outcome saving rest goes (inl (none, _, _)) = cc (saving, none)
-shape b r mid effect outcome saving rest goes (inr (inl (cleaning, _, _))) = cc (saving, cleaning)
-shape b r mid effect outcome saving rest goes (inr (inr (inl (_, _, cuts, _, _)))) =
-    absurd (false≢true (sym rest ∙ cuts))
-shape b r mid effect outcome saving rest goes (inr (inr (inr (inl (n, writing, _, _, _))))) = cc (saving, writing)
-shape b r mid effect outcome saving rest (_, _, after, next) (inr (inr (inr (inr (_, _, (a, step, stepped, ends)))))) =
-    let (is, same) = same_next r after a (Some effect) step next stepped in
-    shape_by b r after mid effect outcome next
-    (subst (λ (x : Recorder × Result (Option Effect) RecorderError). EffectEnds b r x.0 x.1 mid outcome)
-    (λ i. (same i, is i)) ends)
+shape b r mid effect outcome saving rest goes ended =
+    let (other, ends) = ended_next b r mid effect outcome saving rest goes ended in
+    shape_by b r mid other outcome ends
 
 pub begins : (asked : Recorder) (n : ℕ) → IsAsked asked n → IsWithin asked Pending asked None
 begins asked n (_, _, _, inl saving) = inl (saving, refl, refl)
@@ -159,19 +251,17 @@ IsBlockPhase _ = ⊥
 pub block_phase : (mid r : Recorder) (at len : ℕ) (phase : Phase) → mid.phase ≡ phase
     → GoesOn mid r (Ok (Some (WriteBlock at len)))
     → IsBlockPhase phase
-block_phase mid r at len phase is (n, saved, (rest, inl (writing, same)), handed) =
+block_phase mid r at len phase is (n, rest, inl (writing, same), _, _) =
     let this : phase ≡ Writing n = sym is ∙ writing in rw this tt
-block_phase mid r at len phase is (n, saved, (rest, inr (inl (waiting, clear, same))), handed) =
-    let this : phase ≡ Requested n = sym is ∙ waiting in rw this tt
-block_phase mid r at len phase is (n, saved, (rest, inr (inr (waiting, next))), handed) =
+block_phase mid r at len phase is (n, rest, inr (waiting, due, same), _, _) =
     let this : phase ≡ Requested n = sym is ∙ waiting in rw this tt
 
 pub effect_phase : (mid r : Recorder) (effect : Effect) (phase : Phase) → mid.phase ≡ phase
     → GoesOn mid r (Ok (Some (Perform effect)))
     → MaySave phase
-effect_phase mid r effect phase is ((rest, inl saving), same, after, next) =
+effect_phase mid r effect phase is ((rest, inl saving), next, same) =
     let this : phase ≡ Saving = sym is ∙ saving in rw this tt
-effect_phase mid r effect phase is ((rest, inr (n, waiting, first)), same, after, next) =
+effect_phase mid r effect phase is ((rest, inr (n, waiting, first)), next, same) =
     let this : phase ≡ Requested n = sym is ∙ waiting in rw this tt
 
 -- something is cut off only in its phase
@@ -347,53 +437,44 @@ module _ (asked : Recorder) (n : ℕ) (is_asked : IsAsked asked n) where
     OnWith mid r action = (over : Option Bool) × ((next : Report) → IsWithin asked next r over) × after over r
         × GoesOn r r (Ok (Some action))
 
-    handed_on : (mid r saved : Recorder) (k at len : ℕ) → asked.phase ≡ Requested k
-        → record saved { phase = Writing k } ≡ record asked { phase = Writing k }
-        → HandsOut k saved r (WriteBlock at len) → after None r → OnWith mid r (WriteBlock at len)
-    handed_on mid r saved k at len waiting same (there, long, is) known =
-        let x : Recorder = record asked { phase = Writing k } in
-        let this : r ≡ x = is ∙ same in
-        let place : at ≡ end_place x = there ∙ ap end_place same in
-        let all : len ≡ k - x.data_length = long ∙ ap (λ (x : Recorder). k - x.data_length) same in (
-          None,
-          (λ _. inr (inr (inl (k, waiting, this, refl)))),
-          known,
-          subst (λ r. GoesOn r r (Ok (Some (WriteBlock at len)))) (sym this)
-              (k, x, (is_asked.2, inl (refl, refl)), (place, all, refl)),
+    -- a block that is begun is handed out
+    handed_on : (mid r : Recorder) (k at len : ℕ) → asked.phase ≡ Requested k → r ≡ record asked { phase = Writing k }
+        → at ≡ end_place asked → len ≡ k - asked.data_length → after None r → OnWith mid r (WriteBlock at len)
+    handed_on mid r k at len waiting is there long known = (
+      None,
+      (λ _. inr (inr (inl (k, waiting, is, refl)))),
+      known,
+      subst (λ r. GoesOn r r (Ok (Some (WriteBlock at len)))) (sym is)
+          (k, is_asked.2, inl (refl, refl), there, long),
+    )
+
+    -- a block that was requested is begun at once, since nothing failed before it
+    as_asked : (mid r : Recorder) (n k : ℕ) → asked.phase ≡ Requested n → mid ≡ asked → BeginsBlock k mid r
+        → (k ≡ n) × (r ≡ record asked { phase = Writing n })
+    as_asked mid r n k waiting is (inl (writing, one)) =
+        let this = phase_of mid asked is ∙ waiting in cc (writing, this)
+    as_asked mid r n k waiting is (inr (here, due, one)) =
+        let same = same_waiting k n (sym here ∙ phase_of mid asked is ∙ waiting) in (
+          same,
+          one ∙ (λ i. record (once_saved (is i)) { phase = Writing (same i) })
+              ∙ (λ i. record asked {
+                number = sym is_asked.0 i;
+                health = sym (is_clean n waiting) i;
+                phase = Writing n;
+              }),
         )
 
-    -- a block that is due is handed out, once a checkpoint is done or at once
-    as_asked : (mid saved : Recorder) (n k : ℕ) → asked.phase ≡ Requested n → mid ≡ asked → IsDue k mid saved
-        → (k ≡ n) × (record saved { phase = Writing n } ≡ record asked { phase = Writing n })
-    as_asked mid saved n k waiting is (rest, inl (writing, one)) =
-        let this = phase_of mid asked is ∙ waiting in cc (writing, this)
-    as_asked mid saved n k waiting is (rest, inr (inl (here, clear, one))) = (
-      same_waiting k n (sym here ∙ phase_of mid asked is ∙ waiting),
-      ap (λ (x : Recorder). record x { phase = Writing n }) (one ∙ is),
-    )
-    as_asked mid saved n k waiting is (rest, inr (inr (here, next))) = (
-      same_waiting k n (sym here ∙ phase_of mid asked is ∙ waiting),
-      ap (λ (x : Recorder). record x { phase = Writing n }) next.4
-          ∙ (λ i. record (is i) { number = 0; health = Sound; phase = Writing n })
-          ∙ (λ i. record asked { number = sym is_asked.0 i; health = sym (is_clean n waiting) i; phase = Writing n }),
-    )
-
     -- a block that was handed out is so again
-    as_handed : (mid saved : Recorder) (n k : ℕ) → mid ≡ record asked { phase = Writing n } → IsDue k mid saved
-        → (k ≡ n) × (record saved { phase = Writing n } ≡ record asked { phase = Writing n })
-    as_handed mid saved n k is (rest, inl (writing, one)) = (
-      same_written k n (sym writing ∙ phase_of mid _ is),
-      ap (λ (x : Recorder). record x { phase = Writing n }) (one ∙ is),
-    )
-    as_handed mid saved n k is (rest, inr (inl (waiting, clear, one))) = let this =
-        phase_of mid _ is in cc (waiting, this)
-    as_handed mid saved n k is (rest, inr (inr (waiting, next))) = let this = phase_of mid _ is in cc (waiting, this)
+    as_handed : (mid r : Recorder) (n k : ℕ) → mid ≡ record asked { phase = Writing n } → BeginsBlock k mid r
+        → (k ≡ n) × (r ≡ record asked { phase = Writing n })
+    as_handed mid r n k is (inl (writing, one)) = (same_written k n (sym writing ∙ phase_of mid _ is), one ∙ is)
+    as_handed mid r n k is (inr (waiting, due, one)) = let this = phase_of mid _ is in cc (waiting, this)
 
     pub goes_on : (mid r : Recorder) (over : Option Bool) (action : Action) → IsSettled asked mid over → after over mid
         → GoesOn mid r (Ok (Some action)) → OnWith mid r action
     goes_on mid r over (Read at len) settled known goes = absurd goes
-    goes_on mid r over (Perform effect) (inl (inl (saving, is, none))) known (phase, same, x, next) =
-        rw same (over, (λ _. inl (saving, is, none)), known, (phase, refl, x, next))
+    goes_on mid r over (Perform effect) (inl (inl (saving, is, none))) known (phase, next, same) =
+        rw same (over, (λ _. inl (saving, is, none)), known, (phase, next, refl))
     goes_on mid r over (WriteBlock at len) (inl (inl (saving, is, none))) known goes =
         absurd (block_phase mid r at len Saving (phase_of mid _ is ∙ saving) goes)
     goes_on mid r over (Shorten at) (inl (inl (saving, is, none))) known goes =
@@ -403,30 +484,34 @@ module _ (asked : Recorder) (n : ℕ) (is_asked : IsAsked asked n) where
         absurd (clear goes)
       where
         clear : GoesOn mid r (Ok (Some (Perform effect))) → ⊥
-        clear ((rest, inl saving), _, _, _) = let this = phase_of mid asked is ∙ waiting in cc (saving, this)
-        clear ((rest, inr (samples, _, inl doubtful)), _, _, _) =
-            doubtful (ap (λ (x : Recorder). x.health) is ∙ is_clean k waiting)
-        clear ((rest, inr (samples, _, inr some)), _, _, _) =
-            omega (arith, some, ap (λ (x : Recorder). x.number) is, is_asked.0)
+        clear ((rest, inl saving), _, _) = let this = phase_of mid asked is ∙ waiting in cc (saving, this)
+        clear ((rest, inr (samples, _, doubtful)), _, _) =
+            doubtful (
+              ap (λ (x : Recorder). x.health) is ∙ is_clean k waiting,
+              ap (λ (x : Recorder). x.number) is
+                  ∙ is_asked.0,
+            )
     goes_on mid r over (WriteBlock at len) (inl (inr (inl (k, waiting, p, is, none)))) known
-        (samples, saved, due, handed) =
+        (samples, rest, begun, there, long) =
         let number : mid.number ≡ asked.number = ap (λ (x : Recorder). x.number) is in
-        let (one, same) = as_asked mid saved k samples waiting is due in
-        handed_on mid r saved k at len waiting same (subst (λ n. HandsOut n saved r (WriteBlock at len)) one handed)
+        let (one, this) = as_asked mid r k samples waiting is begun in
+        handed_on mid r k at len waiting this (there ∙ ap end_place is)
+        (long ∙ (λ i. one i - (is i).data_length))
         (laws.handed mid r at len (number ∙ is_asked.0) (subst (λ o. after o mid) none known)
-        (samples, saved, due, handed))
+        (samples, rest, begun, there, long))
     goes_on mid r over (Shorten at) (inl (inr (inl (k, waiting, _, is, none)))) known goes =
         absurd (false≢true (cut_phase mid r at (Requested k) false (phase_of mid asked is ∙ waiting)
         (rest_of mid asked is ∙ is_asked.2) goes))
     goes_on mid r over (Perform effect) (inl (inr (inr (inl (k, waiting, is, none))))) known goes =
         absurd (effect_phase mid r effect (Writing k) (phase_of mid _ is) goes)
     goes_on mid r over (WriteBlock at len) (inl (inr (inr (inl (k, waiting, is, none))))) known
-        (samples, saved, due, handed) =
+        (samples, rest, begun, there, long) =
         let number : mid.number ≡ asked.number = ap (λ (x : Recorder). x.number) is in
-        let (one, same) = as_handed mid saved k samples is due in
-        handed_on mid r saved k at len waiting same (subst (λ n. HandsOut n saved r (WriteBlock at len)) one handed)
+        let (one, this) = as_handed mid r k samples is begun in
+        handed_on mid r k at len waiting this (there ∙ ap end_place is)
+        (long ∙ (λ i. one i - (is i).data_length))
         (laws.handed mid r at len (number ∙ is_asked.0) (subst (λ o. after o mid) none known)
-        (samples, saved, due, handed))
+        (samples, rest, begun, there, long))
     goes_on mid r over (Shorten at) (inl (inr (inr (inl (k, waiting, is, none))))) known goes =
         absurd (false≢true (cut_phase mid r at (Writing k) false (phase_of mid _ is) (rest_of mid _ is ∙ is_asked.2)
         goes))
@@ -448,9 +533,8 @@ module _ (asked : Recorder) (n : ℕ) (is_asked : IsAsked asked n) where
         → GoesOn mid r (Ok None) → (r ≡ once_done asked) × after (Some true) r
     finished mid r over (inl (inl (saving, is, none))) known (inl (rests, same)) =
         let this = phase_of mid _ is ∙ saving in cc (this, rests)
-    finished mid r over (inl (inl (saving, is, none))) known (inr (busy, rest, x, next, same)) = (
-      same ∙ ap (λ (x : Recorder). record x { phase = Idle }) next.4
-          ∙ (λ i. record (is i) { number = 0; health = Sound; phase = Idle })
+    finished mid r over (inl (inl (saving, is, none))) known (inr (busy, rest, done, same)) = (
+      same ∙ (λ i. record (is i) { number = 0; health = Sound; phase = Idle })
           ∙ (λ i. record asked {
             data_length = length_after (sym saving i) asked;
             number = 0;
@@ -458,23 +542,23 @@ module _ (asked : Recorder) (n : ℕ) (is_asked : IsAsked asked n) where
             phase =
                 Idle;
           }),
-      laws.saved mid r saving busy (subst (λ o. after o mid) none known) (inr (busy, rest, x, next, same)),
+      laws.saved mid r saving busy (subst (λ o. after o mid) none known) (inr (busy, rest, done, same)),
     )
     finished mid r over (inl (inr (inl (k, waiting, _, is, none)))) known (inl (rests, same)) =
         let this = phase_of mid asked is ∙ waiting in cc (this, rests)
-    finished mid r over (inl (inr (inl (k, waiting, _, is, none)))) known (inr (busy, _, _, _, _)) =
+    finished mid r over (inl (inr (inl (k, waiting, _, is, none)))) known (inr (busy, _, _, _)) =
         let this = phase_of mid asked is ∙ waiting in cc (this, busy)
     finished mid r over (inl (inr (inr (inl (k, waiting, is, none))))) known (inl (rests, same)) =
         let this = phase_of mid _ is in cc (this, rests)
-    finished mid r over (inl (inr (inr (inl (k, waiting, is, none))))) known (inr (busy, _, _, _, _)) =
+    finished mid r over (inl (inr (inr (inl (k, waiting, is, none))))) known (inr (busy, _, _, _)) =
         let this = phase_of mid _ is in cc (this, busy)
     finished mid r over (inl (inr (inr (inr (k, waiting, is, lost))))) known (inl (rests, same)) =
         let this = phase_of mid _ is in cc (this, rests)
-    finished mid r over (inl (inr (inr (inr (k, waiting, is, lost))))) known (inr (busy, _, _, _, _)) =
+    finished mid r over (inl (inr (inr (inr (k, waiting, is, lost))))) known (inr (busy, _, _, _)) =
         let this = phase_of mid _ is in cc (this, busy)
     finished mid r over (inr (k, waiting, is, ok)) known (inl (rests, same)) =
         (same ∙ is, subst (λ (x : Option Bool × Recorder). after x.0 x.1) (λ i. (ok i, sym same i)) known)
-    finished mid r over (inr (k, waiting, is, ok)) known (inr (busy, _, _, _, _)) =
+    finished mid r over (inr (k, waiting, is, ok)) known (inr (busy, _, _, _)) =
         let this = phase_of mid _ is in cc (this, busy)
 
     -- what the call for the next action makes of it

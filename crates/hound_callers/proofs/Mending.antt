@@ -4,15 +4,15 @@ use Rattle.std.proofs.lemmas.Bool.{false≢true}
 use Rattle.std.specs.declared.io.Error.{Error as IoFault}
 use Rattle.std.proofs.Common.{List, [], ◌∷◌, ◌++◌, is_ok, take, ◌≡◌, ◌≤◌, ◌+◌, ◌-◌, ◌%◌, ℕ, zero, suc, Bool, true, false, inl, inr, Option, None, Some, Result, Ok, Err, refl, sym, ◌∙◌, ap, subst, arith}
 use Rattle.std.specs.Prelude.{if◌then◌else◌, IfErr}
-use Rattle.hound.specs.{Begun, Directed, Effect, EffectEnds, FoundFile, IsAlive, is_sound, Goes, IsCutOff, IsSynced, Resumes, ResumesAfter, kept_length, pad_effects, recorder_of, resumed_recorder, riff_size, size_effects, GoesOn, HasData, HasEnded, Log, MediumState, NextEffect, Performed, Performs, Recorder, RecorderError, Repeats, Report, Settles, effects_of, nth}
+use Rattle.hound.specs.{Begun, Directed, Effect, EffectEnds, FoundFile, IsAlive, is_sound, Goes, IsCutOff, IsSynced, Resumes, ResumesAfter, kept_length, pad_effects, recorder_of, resumed_recorder, riff_size, size_effects, GoesOn, HasData, HasEnded, Log, MediumState, Performed, Performs, Recorder, RecorderError, Repeats, Report, Settles, effects_of, nth}
 use Rattle.hound.specs.declared.Action.TheVariants.{Perform}
 use Rattle.hound.specs.declared.RecorderError.TheVariants.{NotWritable, UnfinishedFrame, TooLong, Truncated, NeedsMend, NeedsOverwrite, NeedsCheckpoint, SyncFailed}
 use Rattle.hound.specs.declared.Effect.TheVariants.{Pad, Size, Sync}
 use Rattle.hound.specs.declared.Phase.TheVariants.{Idle, Saving}
 use Rattle.hound.specs.declared.Report.TheVariants.{Pending}
-use Rattle.hound.proofs.Recorders.{performed_all, performed_more, same_next}
+use Rattle.hound.proofs.Recorders.{performed_all, performed_more}
 use Rattle.hound_callers.specs.Recorder.{IsFound, once_mended}
-use Rattle.hound_callers.proofs.Driving.{DoesAction, IsWithin, Laws, block_phase, settles_as, shape, reported_as}
+use Rattle.hound_callers.proofs.Driving.{DoesAction, IsWithin, Laws, block_phase, can, ended_next, settles_as, shape, reported_as}
 use Rattle.hound_callers.proofs.Repeating.{IsUnderWayBy}
 
 -- the effects of a checkpoint that were performed, by whether it is over
@@ -27,21 +27,13 @@ ended_as : (b : Bool) (r mid : Recorder) (effect : Effect) (outcome : Result (Un
     → r.phase ≡ Saving
     → r.has_rest ≡ false → GoesOn r r (Ok (Some (Perform effect))) → HasEnded b r mid outcome
     → (is_ok outcome ≡ b) × (is_ok outcome ≡ false → mid.phase ≡ Idle)
-ended_as b r mid effect outcome saving rest goes (inl (none, _, _)) = cc (saving, none)
-ended_as b r mid effect outcome saving rest goes (inr (inl (cleaning, _, _))) = cc (saving, cleaning)
-ended_as b r mid effect outcome saving rest goes (inr (inr (inl (_, _, cuts, _, _)))) =
-    absurd (false≢true (sym rest ∙ cuts))
-ended_as b r mid effect outcome saving rest goes (inr (inr (inr (inl (n, writing, _, _, _))))) = cc (saving, writing)
-ended_as b r mid effect outcome saving rest (_, _, after, next) (inr (inr (inr (inr (_, _, (a, step, stepped, ends))))))
-    =
-    let (is, same) = same_next r after a (Some effect) step next stepped in
-    by b (subst (λ (x : Recorder × Result (Option Effect) RecorderError). EffectEnds b r x.0 x.1 mid outcome)
-    (λ i. (same i, is i)) ends)
+ended_as b r mid effect outcome saving rest goes ended =
+    let (other, ends) = ended_next b r mid effect outcome saving rest goes ended in by b other ends
   where
-    by : (b : Bool) → EffectEnds b r after (Ok (Some effect)) mid outcome
+    by : (b : Bool) (other : Effect) → EffectEnds b other r mid outcome
         → (is_ok outcome ≡ b) × (is_ok outcome ≡ false → mid.phase ≡ Idle)
-    by true (ok, is) = (ap is_ok ok, λ bad. absurd (false≢true (sym bad ∙ ap is_ok ok)))
-    by false (last, error, failed, err, is) = (ap is_ok err, λ bad. ap (λ (x : Recorder). x.phase) is)
+    by true other (is, ok) = (ap is_ok ok, λ bad. absurd (false≢true (sym bad ∙ ap is_ok ok)))
+    by false other (is, err) = (ap is_ok err, λ bad. ap (λ (x : Recorder). x.phase) is)
 
 -- a report of nothing changes nothing
 stays_idle : (b : Bool) (r mid : Recorder) (outcome : Result (Unit {0}) RecorderError) → r.phase ≡ Idle
@@ -66,15 +58,15 @@ module _ (asked : Recorder) (start : Log) (one : asked.phase ≡ Saving) (block 
       → PerformedAt asked start before None r → GoesOn r r (Ok (Some (Perform effect)))
       → Performs effect result before end.state
       → HasEnded (is_ok result) r mid outcome → PerformedAt asked start end.state (reported_as outcome) mid
-  more (Ok x) r mid effect result (task, has, same, (log, here, done)) (saving, is, after, next) did ended =
-      let goes : GoesOn r r (Ok (Some (Perform effect))) = (saving, is, after, next) in
+  more (Ok x) r mid effect result (task, has, same, (log, here, done)) (saving, next, is) did ended =
+      let goes : GoesOn r r (Ok (Some (Perform effect))) = (saving, next, is) in
       let rest = saving.0 in
       let fine : is_ok result ≡ true = sym (ended_as (is_ok result) r mid effect (Ok x) task rest goes ended).0 in
       let is_mid : mid ≡ record r { number = r.number + 1 } = shape (is_ok result) r mid effect (Ok x) task rest goes
       ended in
       let number : suc r.number ≡ mid.number = omega (arith, ap (λ (x : Recorder). x.number) is_mid) in
       let all = performed_more (effects_of asked) r.number effect result start log end
-      (next.3 ∙ ap (λ l. nth l r.number) same)
+      (sym next.1 ∙ ap (λ l. nth l r.number) same)
       done (subst (λ m. Performs effect result m end.state) (sym here) did) in (
         ap (λ (x : Recorder). x.phase) is_mid ∙ task,
         subst (λ (r : Recorder). HasData r r.data_length) (sym is_mid) has,
@@ -86,13 +78,13 @@ module _ (asked : Recorder) (start : Log) (one : asked.phase ≡ Saving) (block 
               (λ i. (number i, ok_is result fine i)) all,
         ),
       )
-  more (Err error) r mid effect result (task, has, same, (log, here, done)) (saving, is, after, next) did ended =
-      let goes : GoesOn r r (Ok (Some (Perform effect))) = (saving, is, after, next) in
+  more (Err error) r mid effect result (task, has, same, (log, here, done)) (saving, next, is) did ended =
+      let goes : GoesOn r r (Ok (Some (Perform effect))) = (saving, next, is) in
       let rest = saving.0 in
       let failed : is_ok result ≡ false =
       sym (ended_as (is_ok result) r mid effect (Err error) task rest goes ended).0 in
       let all = performed_more (effects_of asked) r.number effect result start log end
-      (next.3 ∙ ap (λ l. nth l r.number) same)
+      (sym next.1 ∙ ap (λ l. nth l r.number) same)
       done (subst (λ m. Performs effect result m end.state) (sym here) did) in (
         (ended_as (is_ok result) r mid effect (Err error) task rest goes ended).1 refl,
         end,
@@ -124,7 +116,7 @@ module _ (asked : Recorder) (start : Log) (one : asked.phase ≡ Saving) (block 
       all_saved : (mid r : Recorder) → PerformedAt asked start end.state None mid → GoesOn mid r (Ok None)
           → PerformedAt asked start end.state (Some true) r
       all_saved mid r (task, has, same, (log, here, done)) (inl (idle, _)) = cc (task, idle)
-      all_saved mid r (task, has, same, (log, here, done)) (inr (busy, rest, x, next, is)) = (
+      all_saved mid r (task, has, same, (log, here, done)) (inr (busy, rest, none, is)) = (
         ap (λ (x : Recorder). x.phase) is,
         log,
         here,
@@ -132,32 +124,19 @@ module _ (asked : Recorder) (start : Log) (one : asked.phase ≡ Saving) (block 
           Ok tt,
           refl,
           performed_all (effects_of asked) mid.number (Ok tt) start log
-              (λ _. next.3 ∙ ap (λ l. nth l mid.number) same) done,
+              (λ _. sym none.1 ∙ ap (λ l. nth l mid.number) same) done,
         ),
       )
-
--- no error comes of what is to do
-no_error : (r new : Recorder) (error : RecorderError) → HasData r r.data_length → IsAlive r
-    → NextEffect true r new (Err error) → ⊥
-no_error r new SyncFailed has low (is, inl dead) = low dead
-no_error r new SyncFailed has low (is, inr ((_, _, bad), _)) = false≢true (sym bad)
-no_error r new NeedsCheckpoint has low (is, (_, _, bad), _) = false≢true (sym bad)
-no_error r new NotWritable has low (is, _, never) = grind (arith, common_steps)
-no_error r new TooLong has low (is, _, never) = grind (arith, common_steps)
-no_error r new UnfinishedFrame has low (is, _, never) = never
-no_error r new Truncated has low (is, _, never) = never
-no_error r new NeedsMend has low (is, _, never) = never
-no_error r new NeedsOverwrite has low (is, _, never) = never
 
 pub effects_not_failed : (asked : Recorder) (start : Log) (m : MediumState) (new : Recorder) (error : RecorderError)
     (over : Option Bool) (mid : Recorder) → PerformedAt asked start m over mid → IsAlive mid
     → GoesOn mid new (Err error) → ⊥
-effects_not_failed asked start m new error (Some b) mid (idle, _, _, _) low ((rest, inl saving), _, _, _) =
+effects_not_failed asked start m new error (Some b) mid (idle, _, _, _) low ((rest, inl saving), _, _) =
     cc (idle, saving)
-effects_not_failed asked start m new error (Some b) mid (idle, _, _, _) low ((rest, inr (k, waiting, _)), _, _, _) =
+effects_not_failed asked start m new error (Some b) mid (idle, _, _, _) low ((rest, inr (k, waiting, _)), _, _) =
     cc (idle, waiting)
-effects_not_failed asked start m new error None mid (one, has, _, _) low (saving, r, failed, _) =
-    no_error mid r error has low failed
+effects_not_failed asked start m new error None mid (one, has, _, _) low (saving, cannot, is) =
+    can mid error (low, has) cannot
 
 -- where the loop begins
 pub begins_effects : (asked : Recorder) (start : Log) (block : List ℕ) (now : MediumState) → asked.phase ≡ Saving

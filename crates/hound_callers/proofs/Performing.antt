@@ -7,7 +7,7 @@ use Rattle.std.proofs.Math.Nat.{div-add-mod', mul-div_cancel, mul-mod_left}
 use Rattle.std.specs.Borrow.{Bor}
 use Rattle.std.specs.List.{AllByRecursion, flat_map}
 use Rattle.hound.proofs.Knowing.{accepted as accepted_of_known, lasts, length-concat, reads_all}
-use Rattle.hound.specs.{Abandons, AreBytes, AsksForBlock, Asked, Begun, Directed, KeptWithin, Known, Log, MediumState, GivesUp, TakesBlock, given_up as given_back, Recorder, RecorderError, WavSpecEx, accepted_as_seen, accepted_by_all, field, found_in, if_marked, Repeats, length_with, log_kind, marked, overlay, publish, seen, start_of}
+use Rattle.hound.specs.{AreBytes, AsksForBlock, AsksForCheckpoint, Asked, Begun, Directed, KeptWithin, Known, Log, MediumState, GivesUp, RejectsBlock, TakesBlock, given_up as given_back, once_rejected, Recorder, RecorderError, WavSpecEx, accepted_as_seen, accepted_by_all, field, found_in, if_marked, Repeats, length_with, log_kind, marked, overlay, publish, seen, start_of}
 use Rattle.hound.specs.declared.Phase.{Phase}
 use Rattle.hound.specs.declared.Phase.TheVariants.{Idle, Saving, Requested, Writing, Cleaning}
 use Rattle.hound.specs.declared.Report.TheVariants.{Pending}
@@ -28,10 +28,22 @@ not_ok (Err e) err = refl
 pub whole_samples : (n width : ℕ) → n % width ≡ 0 → n ≡ n / width * width
 whole_samples n width whole = omega (arith, div-add-mod' n width, whole)
 
--- what was under way was given up, and nothing was
-pub given_up : (old end : Recorder) → Abandons Pending old end → GivesUp old end
-given_up old end (mid, modelled, (same, ok), gives) = subst (λ m. GivesUp m end) same gives
+-- a request without a report gives up what was under way
+pub begins_block : (old new : Recorder) (samples : ℕ) (result : Result (Unit {0}) RecorderError)
+    → AsksForBlock Pending samples old new result
+    → (end : Recorder) × GivesUp old end × TakesBlock samples old.phase end new result
+begins_block old new samples result (mid, end, outcome, (same, ok), gives, takes) = (
+  end,
+  subst (λ m. GivesUp m end) same gives,
+  subst (λ (m : Recorder). TakesBlock samples m.phase end new result) same takes,
+)
 
+pub begins_checkpoint : (old new : Recorder) → AsksForCheckpoint Pending old new
+    → (end : Recorder) × GivesUp old end × (new ≡ record end { phase = Saving })
+begins_checkpoint old new (mid, end, outcome, (same, ok), gives, is) =
+    (end, subst (λ m. GivesUp m end) same gives, is)
+
+-- where that was no block, nothing changes but what is next
 none_given : (phase : Phase) (r : Recorder) → IsFree phase → given_back phase r ≡ record r { phase = Idle }
 none_given Idle r free = refl
 none_given Saving r free = refl
@@ -39,35 +51,45 @@ none_given (Requested n) r free = absurd free
 none_given (Writing n) r free = absurd free
 none_given Cleaning r free = absurd free
 
-pub nothing_given : (old end : Recorder) → IsFree old.phase → Abandons Pending old end
-    → end ≡ record old { phase = Idle }
-nothing_given old end free gives = given_up old end gives ∙ none_given old.phase old free
+pub nothing_given : (old end : Recorder) → IsFree old.phase → GivesUp old end → end ≡ record old { phase = Idle }
+nothing_given old end free gives = gives ∙ none_given old.phase old free
 
--- a recorder that met no failure doesn't take a block
+-- and where a block was rejected, nothing
+rejects : (r : Recorder) (phase : Phase) → IsFree phase → r.phase ≡ phase
+    → once_rejected phase (record r { phase = Idle }) ≡ r
+rejects r Idle free is = λ i. record r { phase = sym is i }
+rejects r Saving free is = λ i. record r { phase = sym is i }
+rejects r (Requested n) free is = absurd free
+rejects r (Writing n) free is = absurd free
+rejects r Cleaning free is = absurd free
+
+-- why a recorder that met no failure rejects a block
 pub not_taken : (r new : Recorder) (block : Bor (List ℕ)) (error : RecorderError)
     → length block.now % r.bytes_per_sample ≡ 0 → IsReady r
     → AsksForBlock Pending (length block.now / r.bytes_per_sample) r new (Err error)
-    → (new ≡ record r { phase = Idle }) × IsRejected r block
-not_taken r new block error whole ready (end, gives, takes) =
-    by error (subst (λ x. TakesBlock (length block.now / r.bytes_per_sample) x new (Err error))
-    (nothing_given r end ready.2 gives) takes)
+    → (new ≡ r) × IsRejected r block
+not_taken r new block error whole ready asks =
+    let (end, gives, (why, is)) = begins_block r new _ (Err error) asks in
+    let given = nothing_given r end ready.2 gives in (
+      is ∙ ap (once_rejected r.phase) given ∙ rejects r r.phase ready.2 refl,
+      by error (subst (λ x. RejectsBlock (length block.now / r.bytes_per_sample) x error) given why),
+    )
   where
     by : (error : RecorderError)
-        → TakesBlock (length block.now / r.bytes_per_sample) (record r { phase = Idle }) new (Err error)
-        → (new ≡ record r { phase = Idle }) × IsRejected r block
-    by SyncFailed (same, dead) = let sound = ready.1 in cc (sound, dead)
-    by UnfinishedFrame (same, alive, inl none) = absurd (let some = ready.5 in omega (arith, some, none))
-    by UnfinishedFrame (same, alive, inr torn) = (same, inr (inl torn))
-    by TooLong (same, alive, long) =
+        → RejectsBlock (length block.now / r.bytes_per_sample) (record r { phase = Idle }) error → IsRejected r block
+    by SyncFailed dead = let sound = ready.1 in cc (sound, dead)
+    by UnfinishedFrame (alive, inl none) = absurd (let some = ready.5 in omega (arith, some, none))
+    by UnfinishedFrame (alive, inr torn) = inr (inl torn)
+    by TooLong (alive, long) =
         let size : length_with r (length block.now / r.bytes_per_sample) ≡ r.data_length + length block.now =
         omega (arith, whole_samples (length block.now) r.bytes_per_sample whole) in
-        (same, inr (inr (rw size at long)))
-    by NotWritable (same, alive, inl low) = absurd (let start = ready.4 in omega (arith, start, low))
-    by NotWritable (same, alive, inr thin) = absurd (let wide = ready.6 in omega (arith, wide, thin))
-    by NeedsCheckpoint (same, alive, never) = absurd never
-    by Truncated (same, alive, never) = absurd never
-    by NeedsMend (same, alive, never) = absurd never
-    by NeedsOverwrite (same, alive, never) = absurd never
+        inr (inr (rw size at long))
+    by NotWritable (alive, inl low) = absurd (let start = ready.4 in omega (arith, start, low))
+    by NotWritable (alive, inr thin) = absurd (let wide = ready.6 in omega (arith, wide, thin))
+    by NeedsCheckpoint (alive, never) = absurd never
+    by Truncated (alive, never) = absurd never
+    by NeedsMend (alive, never) = absurd never
+    by NeedsOverwrite (alive, never) = absurd never
 
 -- what holds at an Ok, or at an Err
 pub on_ok : {T E P : Type 0} (r : Result T E) → (is_ok r ≡ true → P) → OnOk r P

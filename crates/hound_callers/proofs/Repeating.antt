@@ -3,14 +3,14 @@ use Rattle.std.proofs.lemmas.Bool.{false≢true}
 use Rattle.std.proofs.Common.{List, [], ◌∷◌, length, is_ok, ◌≡◌, ◌⊎◌, ◌<◌, ◌≤◌, ◌+◌, ◌-◌, ◌*◌, ℕ, Bool, true, false, inl, inr, Option, None, Some, Result, Ok, Err, refl, sym, ◌∙◌, ap, subst, arith, zero, suc}
 use Rattle.std.specs.Prelude.{⊤}
 use Rattle.std.specs.declared.io.Error.{Error as IoFault}
-use Rattle.hound.specs.{Action, Advances, AreBytes, Begun, Directed, Effect, Flushes, Known, WavSpecEx, GoesOn, IsAlive, IsClear, IsDue, IsSaid, Log, MediumState, NextEffect, PutsAt, Recorder, RecorderError, Repeats, Report, SavesFirst, Settles, bytes_of, end_place, ThenGoesOn, written_first}
+use Rattle.hound.specs.{Action, Advances, AreBytes, Begun, Directed, Effect, Flushes, Known, WavSpecEx, BeginsBlock, GoesOn, HasNoNext, IsAlive, IsClear, IsSaid, Log, MediumState, PutsAt, Recorder, RecorderError, Repeats, Report, Settles, bytes_of, end_place, ThenGoesOn, written_first}
 use Rattle.hound.specs.declared.Action.TheVariants.{Shorten, Perform, Read, WriteBlock}
 use Rattle.hound.specs.declared.Effect.TheVariants.{Pad, Size, Sync}
 use Rattle.hound.specs.declared.Health.TheVariants.{Dead}
 use Rattle.hound.specs.declared.Phase.TheVariants.{Idle, Saving, Requested, Writing}
 use Rattle.hound.specs.declared.RecorderError.TheVariants.{SyncFailed}
 use Rattle.hound.specs.declared.Report.TheVariants.{Done, Failed, Pending}
-use Rattle.hound.proofs.Recorders.{same_next}
+use Rattle.hound.proofs.Recorders.{not_done, one_next}
 use Rattle.hound_callers.specs.Recorder.{IsReportOf, TriesAction, bytes_for, place_for, report_for}
 use Rattle.hound_callers.proofs.Driving.{DoesAction, HasAction, IsWithin, KnownAt, block_phase, cut_phase, effect_phase, not_pending, pending_or_made}
 
@@ -98,63 +98,45 @@ module _ (laws : Again) (block : List ℕ) where
   comes (Shorten at) report m old new small was same = rests report m old new was same
   comes (Read at len) report m old new small was same = rests report m old new was same
 
-  -- a recorder that returned an action returns no other, and doesn't end
-  due_same : (k n : ℕ) (r saved : Recorder) → r.phase ≡ Writing k → IsDue n r saved → saved ≡ r
-  due_same k n r saved writing (rest, inl (_, same)) = same
-  due_same k n r saved writing (rest, inr (inl (waiting, _, _))) = cc (writing, waiting)
-  due_same k n r saved writing (rest, inr (inr (waiting, _))) = cc (writing, waiting)
-
-  not_done : (r after other : Recorder) (effect : Effect) → NextEffect true r after (Ok (Some effect))
-      → NextEffect true r other (Ok None) → ⊥
-  not_done r after other effect next none =
-      let (is, same) = same_next r after other (Some effect) (Ok None) next none in cc
-
   -- what is cut off, and what is done else, exclude each other
   cuts_alone : (r x y : Recorder) (at : ℕ) (other : Action) → GoesOn r x (Ok (Some (Shorten at)))
       → GoesOn r y (Ok (Some other))
       → ((to : ℕ) → other ≡ Shorten to → ⊥) → ⊥
   cuts_alone r x y at (Shorten to) goes again never = never to refl
   cuts_alone r x y at (Read to size) goes again never = again
-  cuts_alone r x y at (Perform e) goes ((rest, inl saving), _, _, _) never =
+  cuts_alone r x y at (Perform e) goes ((rest, inl saving), _, _) never =
       false≢true (cut_phase r x at Saving false saving rest goes)
-  cuts_alone r x y at (Perform e) goes ((rest, inr (k, waiting, _)), _, _, _) never =
+  cuts_alone r x y at (Perform e) goes ((rest, inr (k, waiting, _)), _, _) never =
       false≢true (cut_phase r x at (Requested k) false waiting rest goes)
-  cuts_alone r x y at (WriteBlock to size) goes (k, _, (rest, inl (writing, _)), _) never =
+  cuts_alone r x y at (WriteBlock to size) goes (k, rest, inl (writing, _), _, _) never =
       false≢true (cut_phase r x at (Writing k) false writing rest goes)
-  cuts_alone r x y at (WriteBlock to size) goes (k, _, (rest, inr (inl (waiting, _, _))), _) never =
-      false≢true (cut_phase r x at (Requested k) false waiting rest goes)
-  cuts_alone r x y at (WriteBlock to size) goes (k, _, (rest, inr (inr (waiting, _))), _) never =
+  cuts_alone r x y at (WriteBlock to size) goes (k, rest, inr (waiting, _, _), _, _) never =
       false≢true (cut_phase r x at (Requested k) false waiting rest goes)
 
   pub goes_same : (r new : Recorder) (a b : Action) (m now : MediumState) → GoesOn r r (Ok (Some a))
       → GoesOn r new (Ok (Some b)) → Tried a block m now → Tried b block m now
-  goes_same r new (Perform e) (Perform f) m now (saving, same, after, next) (_, _, other, step) was =
-      let (is, one) = same_next r after other (Some e) (Ok (Some f)) next step in
-      let e_is : e ≡ f = cc in subst (λ e. Tried (Perform e) block m now) e_is was
-  goes_same r new (Perform e) (WriteBlock at len) m now ((rest, how), same, after, next) (k, saved, (_, due), _) was =
-      absurd (by how due)
+  goes_same r new (Perform e) (Perform f) m now (saving, next, same) (_, also, _) was =
+      subst (λ e. Tried (Perform e) block m now) (one_next r e f next also) was
+  goes_same r new (Perform e) (WriteBlock at len) m now ((rest, how), next, same) (k, _, block_begun, _, _) was =
+      absurd (by how block_begun)
     where
-      by : (r.phase ≡ Saving) ⊎ ((n : ℕ) × (r.phase ≡ Requested n) × SavesFirst true r)
-          → ((r.phase ≡ Writing k) × (saved ≡ r)) ⊎ ((r.phase ≡ Requested k) × IsClear r × (saved ≡ r))
-          ⊎ ((r.phase ≡ Requested k) × NextEffect true r saved (Ok None)) → ⊥
-      by how (inr (inr (waiting, none))) = not_done r after saved e next none
+      by : (r.phase ≡ Saving) ⊎ ((n : ℕ) × (r.phase ≡ Requested n) × (IsClear r → ⊥)) → BeginsBlock k r new → ⊥
       by (inl here) (inl (writing, _)) = cc (here, writing)
-      by (inl here) (inr (inl (waiting, _, _))) = cc (here, waiting)
+      by (inl here) (inr (waiting, _, _)) = cc (here, waiting)
       by (inr (n, waiting, first)) (inl (writing, _)) = cc (waiting, writing)
-      by (inr (n, waiting, inl doubtful)) (inr (inl (_, clear, _))) = doubtful clear.0
-      by (inr (n, waiting, inr some)) (inr (inl (_, clear, _))) = omega (arith, some, clear.1)
+      by (inr (n, waiting, first)) (inr (_, inl clear, _)) = first clear
+      by (inr (n, waiting, first)) (inr (_, inr none, _)) = not_done r e next none
   goes_same r new (Perform e) (Shorten at) m now goes cuts was =
       absurd (cuts_alone r new r at (Perform e) cuts goes (λ to is. cc is))
   goes_same r new (Perform e) (Read at len) m now goes never was = absurd never
-  goes_same r new (WriteBlock at len) (Perform f) m now (k, saved, due, (there, long, is)) effect was =
-      absurd (effect_phase r new f (Writing k) (ap (λ (x : Recorder). x.phase) is) effect)
-  goes_same r new (WriteBlock at len) (WriteBlock to size) m now (k, saved, due, (there, long, is))
-      (n, saved2, due2, (there2, _, _)) was =
-      let writing : r.phase ≡ Writing k = ap (λ (x : Recorder). x.phase) is in
-      let one = due_same k k r saved writing due in
-      let two = due_same k n r saved2 writing due2 in
-      let place : at ≡ to = there ∙ ap end_place (one ∙ sym two) ∙ sym there2 in
-      subst (λ at. Tried (WriteBlock at len) block m now) place was
+  goes_same r new (WriteBlock at len) (Perform f) m now (k, _, block_begun, _, _) effect was = absurd (by block_begun)
+    where
+      -- it returned a block, and is as it was
+      by : BeginsBlock k r r → ⊥
+      by (inl (writing, _)) = effect_phase r new f (Writing k) writing effect
+      by (inr (_, _, is)) = effect_phase r new f (Writing k) (ap (λ (x : Recorder). x.phase) is) effect
+  goes_same r new (WriteBlock at len) (WriteBlock to size) m now (k, _, _, there, _) (n, _, _, there2, _) was =
+      subst (λ at. Tried (WriteBlock at len) block m now) (there ∙ sym there2) was
   goes_same r new (WriteBlock at len) (Shorten to) m now goes cuts was =
       absurd (cuts_alone r new r to (WriteBlock at len) cuts goes (λ to is. cc is))
   goes_same r new (WriteBlock at len) (Read to size) m now goes never was = absurd never
@@ -168,11 +150,11 @@ module _ (laws : Again) (block : List ℕ) where
 
   goes_none : (r new : Recorder) (a : Action) → GoesOn r r (Ok (Some a)) → GoesOn r new (Ok None) → ⊥
   goes_none r new (Perform e) goes (inl (idle, _)) = effect_phase r r e Idle idle goes
-  goes_none r new (Perform e) (saving, same, after, next) (inr (one, _, x, none, _)) = not_done r after x e next none
+  goes_none r new (Perform e) (saving, next, same) (inr (one, _, none, _)) = not_done r e next none
   goes_none r new (WriteBlock at len) goes (inl (idle, _)) = block_phase r r at len Idle idle goes
-  goes_none r new (WriteBlock at len) goes (inr (saving, _, _, _, _)) = block_phase r r at len Saving saving goes
+  goes_none r new (WriteBlock at len) goes (inr (saving, _, _, _)) = block_phase r r at len Saving saving goes
   goes_none r new (Shorten at) goes (inl (idle, _)) = false≢true (cut_phase r r at Idle r.has_rest idle refl goes)
-  goes_none r new (Shorten at) goes (inr (saving, rest, _, _, _)) =
+  goes_none r new (Shorten at) goes (inr (saving, rest, _, _)) =
       false≢true (cut_phase r r at Saving false saving rest goes)
   goes_none r new (Read at len) never none = absurd never
 

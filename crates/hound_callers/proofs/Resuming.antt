@@ -1,14 +1,15 @@
 -- A recorder of a file that was found, and may not be changed after its data.
 use Rattle.std.proofs.lemmas.Grind.{common_steps}
-use Rattle.std.proofs.Common.{◌≡◌, ◌⊎◌, ◌<◌, ◌≤◌, ◌+◌, ◌*◌, ◌%◌, ◌/◌, ℕ, Bool, true, false, List, length, inl, inr, Result, Ok, Err, refl, sym, ◌∙◌, ap, subst, arith}
+use Rattle.std.proofs.Common.{◌≡◌, ◌⊎◌, ◌<◌, ◌≤◌, ◌+◌, ◌*◌, ◌%◌, ◌/◌, ℕ, Bool, true, false, List, [], ◌∷◌, drop, take, length, inl, inr, Result, Ok, Err, refl, sym, ◌∙◌, ap, subst, arith}
 use Rattle.std.proofs.Math.Nat.{div-add-mod', le-mul_of_pos_right, mul-mod_left}
 use Rattle.std.specs.Prelude.{if◌then◌else◌, nat_lt}
-use Rattle.hound.specs.{AppendsRecorder, ContinuesAfter, Error, FoundFile, Readable, Recorder, RecorderError, Resumes, ResumesAfter, WavSpecEx, ends_whole, found_frame, greatest_u32, kept_as, padded}
+use Rattle.hound.specs.{AppendsRecorder, ContinuesAfter, Error, FoundFile, Readable, Recorder, RecorderError, Resumes, ResumesAfter, WavSpecEx, ends_whole, found_frame, greatest_u32, kept_as, padded, recorder_of, resumed_recorder}
 use Rattle.hound.specs.declared.Error.TheVariants.{Unsupported}
 use Rattle.hound.specs.declared.RepairState.TheVariants.{HasChunksAfterData as Followed}
 use Rattle.hound.specs.declared.RecorderError.TheVariants.{NotWritable, UnfinishedFrame, TooLong, Truncated, NeedsMend, NeedsOverwrite, NeedsCheckpoint, SyncFailed}
 use Rattle.hound.proofs.Recorders.{readable_frames}
-use Rattle.hound_callers.specs.Recorder.{IsErrorOf, IsNotResumed}
+use Rattle.std.specs.Borrow.{Bor}
+use Rattle.hound_callers.specs.Recorder.{IsErrorOf, IsFull, IsNotResumed, TakesNoMore, total_length}
 
 -- the file lacks data, ends with them, or continues
 abbrev pub IsOneOf : FoundFile → Result Recorder RecorderError → Type 0
@@ -98,14 +99,35 @@ not_resumed f contents samples error e readable counted all frames state some wi
     by SyncFailed (inr (inl (enough, is))) named = because SyncFailed is named
 
 -- a recorder that begins with a file keeps all of its data
+pub kept_as_found : (f : FoundFile) (r : Recorder) → f.state ≡ Followed → Resumes f false false (Ok r)
+    → r ≡ resumed_recorder f f.data_length
+kept_as_found f r state resumes = by (one_of f (Ok r) state resumes)
+  where
+    by : IsOneOf f (Ok r) → r ≡ resumed_recorder f f.data_length
+    by (inl (less, is)) = cc
+    by (inr (inl (enough, (appends, held, is)))) = is
+    by (inr (inr (ends, is))) = cc
+
 pub kept_all : (f : FoundFile) (r : Recorder) → f.state ≡ Followed → Resumes f false false (Ok r)
     → r.data_length ≡ f.data_length
-kept_all f r state resumes = by (one_of f (Ok r) state resumes)
+kept_all f r state resumes = ap (λ (x : Recorder). x.data_length) (kept_as_found f r state resumes)
+
+-- so it takes as much as one of these data
+pub resumed_full : (f : FoundFile) (r : Recorder) (len : ℕ) (blocks : List (Bor (List ℕ))) (n : ℕ)
+    → r ≡ resumed_recorder f f.data_length → f.data_length ≡ len → IsFull r blocks n
+    → IsFull (recorder_of f.spec_ex f.data_start len) blocks n
+resumed_full f r len blocks n is long full =
+    by (drop n blocks) (subst (λ (r : Recorder). IsFull r blocks n) is full)
   where
-    by : IsOneOf f (Ok r) → r.data_length ≡ f.data_length
-    by (inl (less, is)) = cc
-    by (inr (inl (enough, (appends, held, is)))) = ap (λ (x : Recorder). x.data_length) is
-    by (inr (inr (ends, is))) = cc
+    by : (left : List (Bor (List ℕ)))
+        → TakesNoMore (record (resumed_recorder f f.data_length) {
+          data_length = f.data_length + total_length (take n blocks);
+        }) left
+        → TakesNoMore (record (recorder_of f.spec_ex f.data_start len) {
+          data_length = len + total_length (take n blocks);
+        }) left
+    by [] given = given
+    by (block ∷ left) given = rw (sym long) given
 
 -- no recorder begins with samples of more bytes than 32 bits count
 pub too_long : (s : WavSpecEx) (contents : List ℕ) (samples start n : ℕ) → Readable contents s samples start

@@ -1,14 +1,118 @@
 -- What callers do that perform a recorder's effects themselves.
-use Rattle.std.specs.Prelude.{◌≡◌, ◌⊎◌, ℕ, ◌+◌, ◌-◌, ◌*◌, ◌/◌, ◌%◌, ◌<◌, ◌≤◌, Bool, true, false, List, [], ◌∷◌, ◌++◌, length, take, drop, codes, Result, Ok, Err, is_ok, suc, nat_le, if◌then◌else◌}
+use Rattle.std.specs.Prelude.{
+  ◌≡◌,
+  ◌⊎◌,
+  ℕ,
+  ◌+◌,
+  ◌-◌,
+  ◌*◌,
+  ◌/◌,
+  ◌%◌,
+  ◌<◌,
+  ◌≤◌,
+  ◌^◌,
+  ◌&&◌,
+  Option,
+  Bool,
+  true,
+  false,
+  List,
+  [],
+  ◌∷◌,
+  ◌++◌,
+  length,
+  take,
+  drop,
+  codes,
+  Result,
+  Ok,
+  Err,
+  is_ok,
+  suc,
+  nat_le,
+  if◌then◌else◌,
+}
 use Rattle.std.specs.declared.io.Error.{Error as IoFault}
 use Rattle.std.specs.Borrow.{Bor}
 use Rattle.std.specs.List.{AllByRecursion, flat_map}
-use Rattle.hound.specs.{Action, AppendsRecorder, Counts, DoesBeginnings, Ghosts, IsIoError, IsWritable, WhereTells, beginning, data_start, Kept, accepted_by_all, SurvivesLoss, accepted_samples, field, mix, FoundFile, HasData, Head, IsAlive, IsSoundSpec, LeavesWriter, Resumes, mark_of, resumed_file, writer_of, Asked, Begun, Directed, Error, Flushes, IsRejection, IsSaid, KeptWithin, Known, Log, MediumState, Performed, Phase, PutsAt, ReadsAs, Readable, Repeats, Recorder, RecorderError, Rejection, Report, Unreadable, WavSpecEx, bytes_of, effects_of, found_in, greatest_u32, if_marked, log_kind, padded, publish, riff_size, seen, start_of, whole_containers, write, one_more, WhereKeeps, at_beginning, new_file}
+use Rattle.hound.specs.{
+  IsEmpty,
+  LeavesBeginning,
+  Remains,
+  recorder_of,
+  stores_name,
+  Action,
+  AppendsRecorder,
+  Counts,
+  DoesBeginnings,
+  Ghosts,
+  IsIoError,
+  IsWritable,
+  WhereTells,
+  beginning,
+  data_start,
+  Kept,
+  accepted_by_all,
+  SurvivesLoss,
+  accepted_samples,
+  field,
+  mix,
+  FoundFile,
+  HasData,
+  Head,
+  IsAlive,
+  IsSoundSpec,
+  LeavesWriter,
+  Resumes,
+  mark_of,
+  resumed_file,
+  writer_of,
+  Asked,
+  Begun,
+  Directed,
+  Error,
+  Flushes,
+  IsRejection,
+  IsSaid,
+  KeptWithin,
+  Known,
+  Log,
+  MediumState,
+  Performed,
+  Phase,
+  PutsAt,
+  ReadsAs,
+  Readable,
+  Repeats,
+  Recorder,
+  RecorderError,
+  Rejection,
+  Report,
+  Unreadable,
+  WavSpecEx,
+  bytes_of,
+  effects_of,
+  found_in,
+  greatest_u32,
+  if_marked,
+  log_kind,
+  padded,
+  publish,
+  riff_size,
+  seen,
+  start_of,
+  whole_containers,
+  write,
+  one_more,
+  WhereKeeps,
+  at_beginning,
+  new_file,
+}
 use Rattle.hound.specs.declared.Action.TheVariants.{Shorten, Perform, Read, WriteBlock}
 use Rattle.hound.specs.declared.Effect.TheVariants.{Pad, Size, Sync}
 use Rattle.hound.specs.declared.Health.TheVariants.{Sound}
 use Rattle.hound.specs.declared.Phase.TheVariants.{Idle, Saving, Requested}
-use Rattle.hound.specs.declared.RecorderError.TheVariants.{Truncated, NeedsOverwrite}
+use Rattle.hound.specs.declared.RecorderError.TheVariants.{Truncated, NeedsCheckpoint, NeedsOverwrite, SyncFailed}
 use Rattle.hound.specs.declared.Report.TheVariants.{Done, Failed, Pending}
 use Rattle.hound.specs.declared.Error.TheVariants.{FormatError, Unsupported}
 use Rattle.hound_callers.specs.Recording.{published_calls}
@@ -79,13 +183,13 @@ once_done r = record r { data_length = length_after r.phase r; number = 0; healt
 abbrev pub IsNotBegunBy : {M : Type 0} → Ghosts M → WavSpecEx → M → M → Error → Type 0
 IsNotBegunBy kind s old new e = ((IsWritable s → ⊥) × (e ≡ Unsupported) × (new ≡ old))
     ⊎ (IsWritable s × IsIoError e × WhereTells kind.tells (((kind.state new).faults ≡ one_more (kind.state old).faults)
-    × (fault : IoFault) × DoesBeginnings kind.keeps s beginning (Err fault) (kind.state old) (kind.state new)))
+    × (IsEmpty kind.keeps (kind.state old) → (fault : IoFault)
+    × DoesBeginnings kind.keeps s beginning (Err fault) (kind.state old) (kind.state new))))
 
--- a loss of power leaves no sample of a file without bytes that is being begun, and no length of one
-abbrev pub LeavesNoSample : WavSpecEx → MediumState → MediumState → Type 0
-LeavesNoSample s old new = old.contents ≡ [] → (sector : ℕ) (left : List ℕ)
-    → SurvivesLoss sector new.start new.past new.flushed (length new.past) left
-    → (length left ≤ data_start s) × (field (data_start s - 4) left ≡ 0)
+-- a loss of power leaves at most the header of a file without bytes that is being begun, or, until it is, no file
+abbrev pub LosesBeginning : {T E : Type 0} → WavSpecEx → Result T E → MediumState → MediumState → Type 0
+LosesBeginning s result old new = IsEmpty true old → (sector : ℕ) (left : Option (List ℕ))
+    → Remains (is_ok result && stores_name beginning) sector new left → LeavesBeginning result s left
 
 -- the effects of a checkpoint were performed, up to the first that failed, where this is an error
 abbrev pub PerformsAll : {T E : Type 0} → Recorder → Log → Result T E → MediumState → Type 0
@@ -109,6 +213,49 @@ abbrev pub IsRejected : Recorder → Bor (List ℕ) → Type 0
 IsRejected r block = (length block.now % r.bytes_per_sample ≡ 0 → ⊥)
     ⊎ (length block.now / r.bytes_per_sample % r.channels ≡ 0 → ⊥)
     ⊎ (greatest_u32 < riff_size r.data_start (r.data_length + length block.now))
+
+-- no call of a medium failed between these two states of it
+abbrev pub NoFault : MediumState → MediumState → Type 0
+NoFault old new = (old.faults < 2 ^ 64 - 1) × (new.faults ≡ old.faults)
+
+-- a medium counts the calls that fail, as far as 64 bits do
+abbrev pub CountsFaults : MediumState → MediumState → Type 0
+CountsFaults old new = old.faults ≤ 2 ^ 64 - 1 → (old.faults ≤ new.faults) × (new.faults ≤ 2 ^ 64 - 1)
+
+-- no report is lost
+abbrev pub AreAllKept : List Bool → Type 0
+AreAllKept lost = AllByRecursion (λ is_lost. is_lost ≡ false) lost
+
+-- an action that a medium performs: it isn't read or cut off
+abbrev pub IsPerformable : Action → Type 0
+IsPerformable (Perform effect) = Unit
+IsPerformable (WriteBlock at len) = Unit
+IsPerformable _ = ⊥
+
+-- the error of an action that has failed
+abbrev pub IsFailure : RecorderError → Type 0
+IsFailure NeedsCheckpoint = Unit
+IsFailure SyncFailed = Unit
+IsFailure _ = ⊥
+
+-- how many bytes these blocks have
+abbrev pub total_length : List (Bor (List ℕ)) → ℕ
+total_length [] = 0
+total_length (block ∷ blocks) = length block.now + total_length blocks
+
+-- no block is left, or the recorder rejects the next one
+abbrev pub TakesNoMore : Recorder → List (Bor (List ℕ)) → Type 0
+TakesNoMore r [] = Unit
+TakesNoMore r (block ∷ blocks) = IsRejected r block
+
+-- the first n of these blocks follow the data of a recorder, and it takes no more
+abbrev pub IsFull : Recorder → List (Bor (List ℕ)) → ℕ → Type 0
+IsFull r blocks n = TakesNoMore (record r { data_length = r.data_length + total_length (take n blocks) }) (drop n
+    blocks)
+
+-- what holds unless a call failed or a report was lost
+abbrev pub UnlessFault : Bool → List Bool → MediumState → MediumState → Type 0 → Type 0
+UnlessFault tells lost old new P = AreAllKept lost → WhereTells tells (NoFault old new → P)
 
 -- the calls of a block that wasn't saved, and their marks: none, a write that failed, or a checkpoint that did
 abbrev pub StopsIn : WavSpecEx → Recorder → Bor (List ℕ) → List (Asked × Bool) → Type 0
@@ -224,16 +371,20 @@ run_within (block ∷ blocks) most =
 
 -- A part of a recording. Of the next blocks those that have so many bytes at most in all are for it, so the one after
 -- them has no room. Either it couldn't be begun, and none was saved; or it is a new file in which so many of them were
--- saved: all, or those before one at which a recorder stopped, because it was rejected or a call failed.
-abbrev pub IsPart : {M : Type 0} → Ghosts M → WavSpecEx → ℕ → List (Bor (List ℕ)) → M → M → ℕ → Type 0
-IsPart kind s most blocks old new n = ((n ≡ 0) × ((e : Error) × IsNotBegunBy kind s old new e))
-    ⊎ WhereKeeps kind.tells kind.keeps
-    (Saves s (new_file (at_beginning (kind.state old))) (take (run_within blocks most) blocks) n (kind.state new))
+-- saved: all, or those before one at which a recorder stopped, because it was rejected or a call failed; and only
+-- because it was rejected, unless a call failed or a report was lost.
+abbrev pub IsPart : {M : Type 0} → Ghosts M → WavSpecEx → ℕ → List Bool → List (Bor (List ℕ)) → M → M → ℕ → Type 0
+IsPart kind s most lost blocks old new n = ((n ≡ 0) × ((e : Error) × IsNotBegunBy kind s old new e))
+    ⊎ (WhereKeeps kind.tells kind.keeps (IsEmpty kind.keeps (kind.state old)
+    → Saves s (new_file (at_beginning (kind.state old))) (take (run_within blocks most) blocks) n (kind.state new))
+    × UnlessFault kind.tells lost (kind.state old) (kind.state new)
+    (IsFull (recorder_of s (data_start s) 0) (take (run_within blocks most) blocks) n))
 
 -- The parts of a recording, as their media were before and as they are now. In each the next blocks were saved, n in
 -- all.
-abbrev pub AreParts : {M : Type 0} → Ghosts M → WavSpecEx → ℕ → List (Bor (List ℕ)) → List M → List M → ℕ → Type 0
-AreParts kind s most blocks [] [] n = n ≡ 0
-AreParts kind s most blocks (old ∷ olds) (new ∷ news) n = (first rest : ℕ) × (n ≡ first + rest)
-    × IsPart kind s most blocks old new first × AreParts kind s most (drop first blocks) olds news rest
-AreParts kind s most blocks _ _ n = ⊥
+abbrev pub AreParts : {M : Type 0} → Ghosts M → WavSpecEx → ℕ → List Bool → List (Bor (List ℕ)) → List M → List M → ℕ
+    → Type 0
+AreParts kind s most lost blocks [] [] n = n ≡ 0
+AreParts kind s most lost blocks (old ∷ olds) (new ∷ news) n = (first rest : ℕ) × (n ≡ first + rest)
+    × IsPart kind s most lost blocks old new first × AreParts kind s most lost (drop first blocks) olds news rest
+AreParts kind s most lost blocks _ _ n = ⊥

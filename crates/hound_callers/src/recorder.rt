@@ -1,10 +1,11 @@
 // Recorders whose caller performs the effects, on a medium, or on one after the other.
-ghost use Rattle.std.specs.Prelude.{◌≡◌, ◌⊎◌, ◌≤◌, ◌+◌, ℕ, List, [], ◌++◌, ◌∷◌, Bool, Ok, true, false, if◌then◌else◌, IfErr, IfOk, OnErr, OnOk, Result, drop, is_ok, length, slice_index_or, take};
+ghost use Rattle.std.specs.Prelude.{◌≡◌, ◌⊎◌, ◌≤◌, ◌+◌, ℕ, List, [], ◌++◌, ◌∷◌, ◌*◌, Bool, Ok, true, false, if◌then◌else◌, IfErr, IfOk, OnErr, OnOk, Result, drop, is_ok, length, slice_index_or, take};
 ghost use Rattle.std.specs.declared.io.Error.{Error as IoFault};
-ghost use Rattle.hound.specs.{Asked, Begun, Directed, DoesBeginning, DoesBeginnings, Flushes, HasData, IsIoError, IsSaid, IsSynced, IsWritable, Known, Log, MediumState, PutsAt, Readable, Recorder, Repeats, WavSpecEx, WhereKeeps, WhereTells, at_beginning, beginning, end_of, faults_after, new_file, one_more, overlay, placed, resumed_file, seen};
-ghost use Rattle.hound.specs.declared.Phase.TheVariants.{Saving};
-ghost use Rattle.hound.specs.declared.Report.TheVariants.{Pending};
-ghost use Rattle.hound_callers.specs.Recorder.{CountsDirected, Continues, IsFound, IsNotContinued, IsNotMended, IsResumed, once_mended, IsAsked, IsDirected, IsErrorOf, IsNotBegunBy, IsNotResumed, IsReady, LeavesNoSample, PerformsAll, Saves, Stops, StopsAt, TriesAction, asked_as, once_done, report_for, samples_of, AreParts, IsPart, run_within};
+ghost use Rattle.hound.specs.{Asked, Begun, Directed, DoesBeginning, DoesBeginnings, Flushes, HasData, IsIoError, IsSaid, IsSynced, IsWritable, Known, Log, MediumState, PutsAt, Readable, Recorder, Repeats, WavSpecEx, WhereKeeps, WhereTells, IsEmpty, Resumes, at_beginning, beginning, data_start, end_of, faults_after, new_file, one_more, overlay, placed, recorder_of, resumed_file, seen};
+ghost use Rattle.hound.specs.declared.Phase.TheVariants.{Idle, Saving};
+ghost use Rattle.hound.specs.declared.BeginningEffect.TheVariants.{Empty};
+ghost use Rattle.hound.specs.declared.Report.TheVariants.{Done, Pending};
+ghost use Rattle.hound_callers.specs.Recorder.{CountsDirected, Continues, IsFound, IsNotContinued, IsNotMended, IsResumed, once_mended, IsAsked, IsDirected, IsErrorOf, IsNotBegunBy, IsNotResumed, IsReady, LosesBeginning, PerformsAll, AreAllKept, CountsFaults, IsFailure, IsFull, IsPerformable, IsRejected, NoFault, UnlessFault, Saves, Stops, StopsAt, TriesAction, asked_as, once_done, report_for, samples_of, AreParts, IsPart, run_within};
 ghost use Rattle.hound_callers.specs.Recording.{published_calls};
 
 use hound::{
@@ -17,8 +18,10 @@ use std::{io, result};
 
 // Syncs a medium. If its end isn't known, it counts as failed.
 fn sync<M: Medium>(medium: &mut M, is_lost: bool) -> io::Result<()>
-    ensures { WhereTells M.tells ((done : Result Unit IoFault) × IsSaid result done
+    ensures said { WhereTells M.tells ((done : Result Unit IoFault) × IsSaid result done
         × Flushes done (M.state medium.old) (M.state medium.new)) }
+    ensures kept { is_lost ≡ false
+        → WhereTells M.tells (Flushes result (M.state medium.old) (M.state medium.new)) }
 {
     let result = medium.flush();
     if is_lost {
@@ -48,6 +51,9 @@ fn perform<M: Medium>(medium: &mut M, action: Action, block: &[u8], is_lost: boo
     ensures ended { is_lost ≡ false → result ≡ Pending → ⊥ }
     ensures tries { WhereKeeps M.tells M.keeps
         (TriesAction action block.now result (M.state medium.old) (M.state medium.new)) }
+    ensures faults { WhereTells M.tells (CountsFaults (M.state medium.old) (M.state medium.new)) }
+    ensures cause { is_lost ≡ false → IsPerformable action → WhereTells M.tells
+        (NoFault (M.state medium.old) (M.state medium.new) → result ≡ Done) }
 {
     let is_done = match action {
         Action::Perform(Effect::Sync) => return report_of(sync(medium, is_lost).is_ok(), false),
@@ -98,6 +104,10 @@ fn perform_all<M: Medium>(
     ensures performed { WhereKeeps M.tells M.keeps ((start : Log) → Repeats start.state (M.state medium.old)
         → recorder.old.phase ≡ Saving → HasData recorder.old recorder.old.data_length
         → PerformsAll recorder.old start result (M.state medium.new)) }
+    ensures faults { WhereTells M.tells (CountsFaults (M.state medium.old) (M.state medium.new)) }
+    ensures cause { HasData recorder.old recorder.old.data_length → UnlessFault M.tells lost.now
+        (M.state medium.old) (M.state medium.new) (is_ok result ≡ true) }
+    ensures error { HasData recorder.old recorder.old.data_length → IfErr result IsFailure }
 {
     a_recorder_directs();
     a_request_ends();
@@ -128,6 +138,13 @@ fn save_block<M: Medium>(
     ensures stopped { OnErr result (WhereKeeps M.tells M.keeps ((s : WavSpecEx) (file : Begun) (known : List Known)
         → IsDirected s file known recorder.old (M.state medium.old)
         → Stops s file known block.entry recorder.new (M.state medium.new))) }
+    ensures longer { OnOk result (recorder.new ≡ record recorder.old {
+      data_length = recorder.old.data_length + length block.now;
+      phase = Idle;
+    }) }
+    ensures faults { WhereTells M.tells (CountsFaults (M.state medium.old) (M.state medium.new)) }
+    ensures cause { UnlessFault M.tells lost.now (M.state medium.old) (M.state medium.new)
+        (is_ok result ≡ false → IsRejected recorder.old block.entry) }
 {
     a_recorder_directs();
     let width = recorder.bytes_per_sample as usize;
@@ -154,6 +171,9 @@ fn save_blocks<M: Medium>(
         × StopsAt s recorder.new (drop result blocks.now) more × (recorder.new.number ≡ 0)
         × IsDirected s file (seen (published_calls (samples_of s) (take result blocks.now) ++ more))
         recorder.new (M.state medium.new)) }
+    ensures faults { WhereTells M.tells (CountsFaults (M.state medium.old) (M.state medium.new)) }
+    ensures cause { UnlessFault M.tells lost.now (M.state medium.old) (M.state medium.new)
+        (IsFull recorder.old blocks.now result) }
 {
     let mut made = 0;
     for i in 0..blocks.len() {
@@ -164,15 +184,15 @@ fn save_blocks<M: Medium>(
     blocks.len()
 }
 
-// Performs an effect with which a file begins. A medium isn't cut off, and is in no folder.
+// Performs an effect with which a file begins. A medium is in no folder, and one that is empty needs no cut.
 fn perform_beginning<M: Medium>(
     medium: &mut M,
     spec_ex: WavSpecEx,
     effect: BeginningEffect,
 ) -> io::Result<()>
     requires { IsWritable spec_ex }
-    ensures does { WhereTells M.tells
-        (DoesBeginning M.keeps spec_ex effect result (M.state medium.old) (M.state medium.new)) }
+    ensures does { WhereTells M.tells ((effect ≡ Empty → IsEmpty M.keeps (M.state medium.old))
+        → DoesBeginning M.keeps spec_ex effect result (M.state medium.old) (M.state medium.new)) }
     ensures faults { WhereTells M.tells
         ((M.state medium.new).faults ≡ faults_after result (M.state medium.old).faults) }
 {
@@ -190,8 +210,8 @@ fn perform_beginning<M: Medium>(
 fn begin_from<M: Medium>(medium: &mut M, spec_ex: WavSpecEx, number: u32) -> io::Result<()>
     requires writable { IsWritable spec_ex }
     requires within { number ≤ 5 }
-    ensures does { WhereTells M.tells (DoesBeginnings M.keeps spec_ex (drop number beginning) result
-        (M.state medium.old) (M.state medium.new)) }
+    ensures does { WhereTells M.tells ((number ≤ 1 → IsEmpty M.keeps (M.state medium.old))
+        → DoesBeginnings M.keeps spec_ex (drop number beginning) result (M.state medium.old) (M.state medium.new)) }
     ensures faults { WhereTells M.tells
         ((M.state medium.new).faults ≡ faults_after result (M.state medium.old).faults) }
 {
@@ -205,12 +225,15 @@ fn begin_from<M: Medium>(medium: &mut M, spec_ex: WavSpecEx, number: u32) -> io:
 /// Begins a file by the effects that are requested for it: at an Ok all of them were performed (`opened`). A new one
 /// has at most its header then, and counts no sample, also after a loss of power (`survives`). Where one of them fails
 /// it isn't begun (`rejected`).
+///
+/// What it promises of the file's bytes holds if the file is empty (`IsEmpty`), since a medium isn't cut off.
 pub fn begin_by_effects<M: Medium>(medium: &mut M, spec_ex: WavSpecEx) -> hound::Result<()>
     ensures rejected { IfErr result (λ e. IsNotBegunBy M.Placed spec_ex medium.old medium.new e) }
-    ensures opened { IfOk result (λ _. IsWritable spec_ex × WhereTells M.tells (DoesBeginnings M.keeps spec_ex
-        beginning (Ok tt) (M.state medium.old) (M.state medium.new))) }
+    ensures opened { IfOk result (λ _. IsWritable spec_ex × WhereTells M.tells (IsEmpty M.keeps (M.state medium.old)
+        → DoesBeginnings M.keeps spec_ex beginning (Ok tt) (M.state medium.old) (M.state medium.new))) }
     ensures survives { IsWritable spec_ex → WhereKeeps M.tells M.keeps
-        (LeavesNoSample spec_ex (M.state medium.old) (M.state medium.new)) }
+        (LosesBeginning spec_ex result (M.state medium.old) (M.state medium.new)) }
+    ensures faults { OnOk result (WhereTells M.tells ((M.state medium.new).faults ≡ (M.state medium.old).faults)) }
 {
     a_recording_is_kept();
     if !spec_ex.is_writable() {
@@ -224,6 +247,9 @@ pub fn begin_by_effects<M: Medium>(medium: &mut M, spec_ex: WavSpecEx) -> hound:
 /// fit, and returns how many blocks were saved. It writes the bytes and performs the effects itself, as programs in
 /// other languages do: of the first effects those reports are lost that `lost` says, as of a program that was
 /// interrupted, and what has no report is performed again. It is an error if the file isn't begun (`rejected`).
+///
+/// Unless a call of the medium failed or a report was lost, all blocks are saved, or those before one that is no whole
+/// frames or has no room (`cause`).
 pub fn record_by_effects<M: Medium>(
     medium: &mut M,
     spec_ex: WavSpecEx,
@@ -232,8 +258,10 @@ pub fn record_by_effects<M: Medium>(
 ) -> hound::Result<usize>
     ensures rejected { IfErr result (λ e. IsNotBegunBy M.Placed spec_ex medium.old medium.new e) }
     ensures within { IfOk result (λ n. n ≤ length blocks.now) }
-    ensures saved { IfOk result (λ n. WhereKeeps M.tells M.keeps
-        (Saves spec_ex (new_file (at_beginning (M.state medium.old))) blocks.now n (M.state medium.new))) }
+    ensures saved { IfOk result (λ n. WhereKeeps M.tells M.keeps (IsEmpty M.keeps (M.state medium.old)
+        → Saves spec_ex (new_file (at_beginning (M.state medium.old))) blocks.now n (M.state medium.new))) }
+    ensures cause { IfOk result (λ n. UnlessFault M.tells lost.now (M.state medium.old) (M.state medium.new)
+        (IsFull (recorder_of spec_ex (data_start spec_ex) 0) blocks.now n)) }
 {
     a_recorder_directs();
     a_recording_is_kept();
@@ -271,6 +299,9 @@ fn mend<M: Medium>(
     ensures done { OnOk result (recorder.new ≡ once_mended recorder.old) }
     ensures performed { WhereKeeps M.tells M.keeps ((start : Log) → Repeats start.state (M.state medium.old)
         → PerformsAll recorder.old start result (M.state medium.new)) }
+    ensures faults { WhereTells M.tells (CountsFaults (M.state medium.old) (M.state medium.new)) }
+    ensures cause { UnlessFault M.tells lost.now (M.state medium.old) (M.state medium.new) (is_ok result ≡ true) }
+    ensures error { IfErr result IsFailure }
 {
     begin_mending(recorder);
     perform_all(medium, recorder, &[], lost, made)
@@ -292,10 +323,13 @@ pub fn continue_by_effects<M: Medium>(
     requires synced { WhereKeeps M.tells M.keeps (IsSynced (M.state medium.old)) }
     ensures within { IfOk result (λ n. n ≤ length blocks.now) }
     ensures rejected { IfErr result (λ error. (IsNotContinued found error × (medium.new ≡ medium.old))
-        ⊎ WhereKeeps M.tells M.keeps (IsFound found (M.state medium.old) →
-        IsNotMended found (M.state medium.old) (M.state medium.new))) }
+        ⊎ (IsFailure error × WhereKeeps M.tells M.keeps (IsFound found (M.state medium.old) →
+        IsNotMended found (M.state medium.old) (M.state medium.new))
+        × UnlessFault M.tells lost.now (M.state medium.old) (M.state medium.new) ⊥)) }
     ensures saved { IfOk result (λ n. WhereKeeps M.tells M.keeps (IsFound found (M.state medium.old) →
         Continues found (M.state medium.old) blocks.now n (M.state medium.new))) }
+    ensures cause { IfOk result (λ n. UnlessFault M.tells lost.now (M.state medium.old) (M.state medium.new)
+        ((r : Recorder) × Resumes found true false (Ok r) × IsFull r blocks.now n)) }
 {
     a_recorder_directs();
     a_recording_is_kept();
@@ -336,6 +370,9 @@ pub fn append_by_effects<M: Medium>(
     ensures saved { IfOk result (λ n. WhereKeeps M.tells M.keeps ((s : WavSpecEx) × (samples start : ℕ)
         × Readable contents.now s samples start
         × Saves s (resumed_file s samples start (M.state medium.old)) blocks.now n (M.state medium.new))) }
+    ensures cause { IfOk result (λ n. UnlessFault M.tells lost.now (M.state medium.old) (M.state medium.new)
+        ((s : WavSpecEx) × (samples start : ℕ) × Readable contents.now s samples start
+        × IsFull (recorder_of s start (samples * s.bytes_per_sample)) blocks.now n)) }
 {
     a_recorder_directs();
     a_recording_is_kept();
@@ -402,7 +439,7 @@ fn record_part<M: Medium>(
     lost: &[bool],
 ) -> usize
     ensures within { result ≤ length blocks.now }
-    ensures part { IsPart M.Placed spec_ex most blocks.now medium.old medium.new result }
+    ensures part { IsPart M.Placed spec_ex most lost.now blocks.now medium.old medium.new result }
 {
     let count = run_within(blocks, most);
     match record_by_effects(medium, spec_ex, &blocks[..count], lost) {
@@ -419,7 +456,8 @@ fn record_part<M: Medium>(
 /// repair of the one before may find it there, too.
 ///
 /// Each file is begun, also where no block is left for it. One takes no block only where it can't be begun
-/// ([`record_by_effects`] says what it holds then), or where its first block has no room or stops it.
+/// ([`record_by_effects`] says what it holds then), or where its first block has no room or stops it; and a block that
+/// has room stops a file only if it is rejected, unless a call of its medium failed or a report was lost.
 pub fn record_in_parts<M: Medium>(
     media: &mut [M],
     spec_ex: WavSpecEx,
@@ -428,7 +466,7 @@ pub fn record_in_parts<M: Medium>(
     lost: &[bool],
 ) -> usize
     ensures within { result ≤ length blocks.now }
-    ensures parts { AreParts M.Placed spec_ex most blocks.now media.old media.new result }
+    ensures parts { AreParts M.Placed spec_ex most lost.now blocks.now media.old media.new result }
 {
     let Some((first, rest)) = media.split_first_mut() else {
         return 0;

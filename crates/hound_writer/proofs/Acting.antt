@@ -9,8 +9,8 @@ use Rattle.hound_medium.specs.{MediumState}
 use Rattle.hound_spec.specs.declared.spec.WavSpecEx.{WavSpecEx}
 use Rattle.hound_writer.specs.Beginning.{at_beginning}
 use Rattle.hound_writer.specs.Calls.{Begun, Known, marked, new_file, publish}
-use Rattle.hound_writer.specs.Effects.{Log, Performs}
-use Rattle.hound_writer.specs.Recorder.{EffectEnds, GivesUp, GoesOn, HasEnded, IsSaving, MaySave, TakesBlock, after_block, cuts_next, doubted, end_of, end_place, given_up, BeginsRecorder, HasData, IsAlive, IsClear, NextEffect, length_with, recorder_of}
+use Rattle.hound_writer.specs.Effects.{Log, Performs, nth}
+use Rattle.hound_writer.specs.Recorder.{CannotSave, EffectEnds, EndsEffect, GivesUp, GoesOn, HasEnded, HasNext, HasNoNext, IsSaving, MaySave, TakesBlock, after_block, cuts_next, doubted, end_of, end_place, given_up, BeginsRecorder, HasData, IsAlive, IsClear, effects_of, length_with, once_rejected, recorder_of, saved, stopped}
 use Rattle.hound_writer.specs.Parts.{PutsAt}
 use Rattle.hound_writer.specs.Recording.{Directed, HasPlace, HasRoomTo, InStep, Opened, Resumed, block_known, cut_known, resumed_file}
 use Rattle.hound_writer.specs.Resuming.{ContinuesAfter, Resumes, ResumesAfter, kept_length, rest_follows, resumed_recorder}
@@ -22,12 +22,12 @@ use Rattle.hound_writer.specs.declared.recorder.Phase.TheVariants.{Idle, Saving,
 use Rattle.hound_writer.specs.declared.recorder.Recorder.{Recorder}
 use Rattle.hound_writer.specs.declared.recorder.RecorderError.{RecorderError}
 use Rattle.hound_writer.specs.declared.resuming.FoundFile.{FoundFile}
-use Rattle.hound_writer.proofs.Directing.{at_none, readable_frames, step_block, step_cut, step_effect, step_new, step_resumed, step_save}
+use Rattle.hound_writer.proofs.Directing.{at_none, readable_frames, step_block, step_cut, step_data, step_effect, step_new, step_resumed, step_save}
 
 -- what is under way doesn't count
 pub step_same : (s : WavSpecEx) (file : Begun) (known : List Known) (r : Recorder) (m : MediumState)
-    (phase : Phase) (has_rest : Bool) → InStep s file known r true m
-    → InStep s file known (record r { phase = phase; has_rest = has_rest }) true m
+    (phase : Phase) (has_rest : Bool) → InStep s file known r m
+    → InStep s file known (record r { phase = phase; has_rest = has_rest }) m
 step_same s file known r m phase has_rest d = record {
   writer = d.writer;
   recorded = d.recorded;
@@ -36,16 +36,14 @@ step_same s file known r m phase has_rest d = record {
   order = d.order;
   log = d.log;
   state = d.state;
-  result = d.result;
-  last = d.last;
   performed = d.performed;
 }
 
 -- between two calls a checkpoint may be needed also where nothing has failed
 step_needs : (s : WavSpecEx) (file : Begun) (known : List Known) (r : Recorder) (m : MediumState)
-    → InStep s file known r true m → r.number ≡ 0 → InStep s file known (record r { health = Suspect }) true m
+    → InStep s file known r m → r.number ≡ 0 → InStep s file known (record r { health = Suspect }) m
 step_needs s file known r m d none =
-    let (done, same) = at_none r d.result d.writer.medium d.log none d.performed in
+    let same = at_none r d.writer.medium d.log none d.performed in
     record {
       writer = d.writer;
       recorded = d.recorded;
@@ -54,9 +52,7 @@ step_needs s file known r m d none =
       order = λ synced. let (high, order, low) = d.order synced in (high, order, λ sound. cc sound);
       log = d.log;
       state = d.state;
-      result = d.result;
-      last = λ begun. absurd (omega (arith, begun, none));
-      performed = rw none (done, same);
+      performed = rw none (refl, same);
     }
 
 sum_of : (n f g c w k : ℕ) → n ≡ f * c * w → k ≡ n + g * c * w → k ≡ (f + g) * c * w
@@ -67,7 +63,7 @@ frames_of : (c k : ℕ) → k % c ≡ 0 → (frames : ℕ) × (k ≡ frames * c)
 frames_of c k whole = (k / c, let all = div-add-mod' k c in omega (arith, all, whole))
 
 -- a recorder that has nothing to do, of a file in step with it
-pub idle : (s : WavSpecEx) (file : Begun) (frames : ℕ) (r : Recorder) (m : MediumState) → InStep s file [] r true m
+pub idle : (s : WavSpecEx) (file : Begun) (frames : ℕ) (r : Recorder) (m : MediumState) → InStep s file [] r m
     → r.channels ≡ s.spec.channels → r.data_length ≡ frames * r.channels * r.bytes_per_sample
     → r.phase ≡ Idle → Directed s file [] r m
 idle s file frames r m d channels whole phase = grind (arith, common_steps)
@@ -86,7 +82,7 @@ directing_new s old log r opened (writable, is) =
 
 -- a recorder that keeps what the header counts
 kept_counted : (f : FoundFile) (b : Bool) (m : MediumState) (file : Begun) (frames : ℕ)
-    → InStep f.spec_ex file [] (recorder_of f.spec_ex f.data_start f.data_length) true m
+    → InStep f.spec_ex file [] (recorder_of f.spec_ex f.data_start f.data_length) m
     → f.data_length ≡ frames * f.spec_ex.spec.channels * f.spec_ex.bytes_per_sample
     → rest_follows f f.data_length ≡ b
     → Directed f.spec_ex file [] (resumed_recorder f f.data_length) m
@@ -121,23 +117,20 @@ directing_resumed f samples mends overwrites old log r is resumes same =
         at n (appends, held, this) (sym (ap (λ (x : Recorder). x.data_length) this) ∙ same)
     by (Err error) never = cc
 
--- the next effect is one
-pub same_next : (r a b : Recorder) (effect : Option Effect) (next : Result (Option Effect) RecorderError)
-    → NextEffect true r a (Ok effect) → NextEffect true r b next → (next ≡ Ok effect) × (b ≡ a)
-same_next r a b effect next given1 given2 = grind (arith, common_steps)
+-- only one effect is next, and none is where all are done
+pub one_next : (r : Recorder) (a b : Effect) → HasNext a r → HasNext b r → a ≡ b
+one_next r a b (_, one) (_, other) = let both : Some a ≡ Some b = sym one ∙ other in cc both
+
+pub not_done : (r : Recorder) (effect : Effect) → HasNext effect r → HasNoNext r → ⊥
+not_done r effect (_, some) (_, none) = let both : Some effect ≡ None = sym some ∙ none in cc both
 
 -- the recorder's data
 abbrev IsAs : Recorder → Recorder → Type 0
 IsAs a b = (a.data_length ≡ b.data_length) × (a.bytes_per_sample ≡ b.bytes_per_sample) × (a.channels ≡ b.channels)
 
--- the calls for effects keep them
-keeps_data : (ok : Bool) (a b : Recorder) (next : Result (Option Effect) RecorderError) → NextEffect ok a b next
-    → IsAs b a
-keeps_data ok a b next given = grind (arith, common_steps)
-
 -- the recorder has the same data, and does something else
 moved : (s : WavSpecEx) (file : Begun) (known more : List Known) (old r : Recorder) (m next : MediumState)
-    (phase : Phase) (has_rest : Bool) → Directed s file known old m → InStep s file more r true next → IsAs r old
+    (phase : Phase) (has_rest : Bool) → Directed s file known old m → InStep s file more r next → IsAs r old
     → HasPlace phase r → Directed s file more (record r { phase = phase; has_rest = has_rest }) next
 moved s file known more old r m next phase has_rest d step (len, width, channels) place = record {
   in_step = step_same s file more r next phase has_rest step;
@@ -184,39 +177,57 @@ gives_up s file known old m (Writing n) d is =
     rw sound (moved s file known known old (record old { health = Suspect }) m m Saving true d
     (step_needs s file known old m d.in_step none) (refl, refl, refl) tt)
 
--- nothing is under way then
-is_given_up : (phase : Phase) (r : Recorder) → record (given_up phase r) { phase = Idle } ≡ given_up phase r
-is_given_up phase r = grind (arith, common_steps)
+-- nothing is under way, or a checkpoint is, once a block was rejected
+rejected : (s : WavSpecEx) (file : Begun) (known : List Known) (end : Recorder) (m : MediumState) (phase : Phase)
+    → Directed s file known (record end { phase = Saving }) m → end.phase ≡ Idle
+    → Directed s file known (once_rejected phase end) m
+rejected s file known end m phase one idle = by phase
+  where
+    still : Directed s file known end m
+    still = subst (λ (phase : Phase). Directed s file known (record end { phase = phase }) m) (sym idle) (record {
+      in_step = step_same s file known (record end { phase = Saving }) m Idle end.has_rest one.in_step;
+      channels = one.channels;
+      whole = one.whole;
+      block = tt;
+    })
+
+    by : (phase : Phase) → Directed s file known (once_rejected phase end) m
+    by Saving = one
+    by Idle = still
+    by Cleaning = still
+    by (Requested n) = still
+    by (Writing n) = still
+
+is_idle : (phase : Phase) (r : Recorder) → (given_up phase r).phase ≡ Idle
+is_idle phase r = grind (arith, common_steps)
 
 pub directing_asked : (s : WavSpecEx) (file : Begun) (known : List Known) (old end new : Recorder)
-    (m : MediumState) (samples : ℕ) → Directed s file known old m → GivesUp old end
-    → Directed s file known (record end { phase = Saving }) m
-    × (TakesBlock samples end new (Ok tt) → Directed s file known new m) × Directed s file known end m
-directing_asked s file known old end new m samples d gives =
-    let one : Directed s file known (record end { phase = Saving }) m =
-    rw gives (gives_up s file known old m old.phase d refl) in
-    let idle : record end { phase = Idle } ≡ end = rw gives (is_given_up old.phase old) in (
-      one,
-      λ (low, some, whole, room, is). rw is
-          (asks s file known (record end { phase = Saving }) m samples one whole room),
-      subst (λ r. Directed s file known r m) idle (record {
-        in_step = step_same s file known (record end { phase = Saving }) m Idle end.has_rest one.in_step;
-        channels = one.channels;
-        whole = one.whole;
-        block = tt;
-      }),
-    )
+    (m : MediumState) (samples : ℕ) (result : Result (Unit {0}) RecorderError) → Directed s file known old m
+    → GivesUp old end → Directed s file known (record end { phase = Saving }) m
+    × (TakesBlock samples old.phase end new result → Directed s file known new m)
+directing_asked s file known old end new m samples result d gives = (one, by result)
+  where
+    one : Directed s file known (record end { phase = Saving }) m
+    one = rw gives (gives_up s file known old m old.phase d refl)
+
+    by : (result : Result (Unit {0}) RecorderError) → TakesBlock samples old.phase end new result
+        → Directed s file known new m
+    by (Ok x) (low, some, whole, room, is) =
+        rw is (asks s file known (record end { phase = Saving }) m samples one whole room)
+    by (Err error) (why, is) =
+        rw is (rejected s file known end m old.phase one (ap (λ (r : Recorder). r.phase) gives ∙ is_idle old.phase old))
 
 pub directing_saved : (s : WavSpecEx) (file : Begun) (known : List Known) (old new : Recorder)
     (m : MediumState) → Directed s file known old m → old.phase ≡ Saving → GoesOn old new (Ok None)
     → Directed s file (known ++ marked publish true ∷ []) new m
 directing_saved s file known old new m d saving (inl (none, _)) = cc (saving, none)
-directing_saved s file known old new m d saving (inr (_, rest, r, next, is)) =
-    rw is (moved s file known (known ++ marked publish true ∷ []) old r m m Idle r.has_rest d
-    (step_save s file known old r true m d.in_step next) (keeps_data true old r (Ok None) next) tt)
+directing_saved s file known old new m d saving (inr (_, rest, none, is)) =
+    rw is (moved s file known (known ++ marked publish true ∷ []) old (saved old) m m Idle old.has_rest d
+    (step_save s file known old m d.in_step none) (refl, refl, refl) tt)
 
-some_done : (old r : Recorder) → NextEffect true old r (Ok None) → 0 < old.number
-some_done old r given = grind (arith, common_steps)
+-- some effect was before the end
+some_done : (r : Recorder) → HasNoNext r → 0 < r.number
+some_done r given = grind (arith, common_steps)
 
 -- a block that has room begins below 2^64
 low_end : (n : ℕ) (r : Recorder) → HasRoomTo n r → end_place r ≡ end_of r
@@ -226,26 +237,25 @@ pub directing_handed : (s : WavSpecEx) (file : Begun) (known : List Known) (old 
     (m : MediumState) (place len : ℕ) → Directed s file known old m
     → GoesOn old new (Ok (Some (WriteBlock place len))) → (place ≡ end_of new)
     × (Directed s file known new m ⊎ ((0 < old.number) × Directed s file (known ++ marked publish true ∷ []) new m))
-directing_handed s file known old new m place len d (n, r, (rest, inl (writing, same)), (there, _, is)) =
+directing_handed s file known old new m place len d (n, rest, inl (writing, same), there, _) =
     let (room, clear) = subst (λ phase. HasPlace phase old) writing d.block in
-    grind (arith, common_steps, moved, low_end)
-directing_handed s file known old new m place len d (n, r, (rest, inr (inl (waiting, clear, same))), (there, _, is)) =
+    rw same (there ∙ low_end n old room, inl d)
+directing_handed s file known old new m place len d (n, rest, inr (waiting, inl clear, is), there, _) =
     let room = subst (λ phase. HasPlace phase old) waiting d.block in
-    rw (is, same) (
-      there ∙ ap end_place same ∙ low_end n old room,
+    let now : new ≡ record old { phase = Writing n } =
+    is ∙ (λ i. record old { number = sym clear.1 i; health = sym clear.0 i; phase = Writing n }) in
+    rw now (
+      there ∙ low_end n old room,
       inl (moved s file known known old old m m (Writing n) old.has_rest d d.in_step (refl, refl, refl) (room, clear)),
     )
-directing_handed s file known old new m place len d (n, r, (rest, inr (inr (waiting, next))), (there, _, is)) =
+directing_handed s file known old new m place len d (n, rest, inr (waiting, inr none, is), there, _) =
     let room = subst (λ phase. HasPlace phase old) waiting d.block in
-    let saved : HasRoomTo n r = rw next.4 room in
-    let clear : IsClear r = rw next.4 (refl, refl) in
-    let same = keeps_data true old r (Ok None) next in
     rw is (
-      there ∙ low_end n r saved,
+      there ∙ low_end n old room,
       inr (
-        some_done old r next,
-        moved s file known (known ++ marked publish true ∷ []) old r m m
-            (Writing n) r.has_rest d (step_save s file known old r true m d.in_step next) same (saved, clear),
+        some_done old none,
+        moved s file known (known ++ marked publish true ∷ []) old (saved old) m m (Writing n) old.has_rest d
+            (step_save s file known old m d.in_step none) (refl, refl, refl) (room, (refl, refl)),
       ),
     )
 
@@ -272,21 +282,18 @@ directing_cut s file known old new m ok outcome d cuts (inr (inr (inr (inr (savi
 pub directing_failed : (s : WavSpecEx) (file : Begun) (known : List Known) (old new : Recorder)
     (m : MediumState) (error : RecorderError) → Directed s file known old m → IsAlive old
     → GoesOn old new (Err error) → ⊥
-directing_failed s file known old new m error d low given = grind (arith, common_steps)
+directing_failed s file known old new m error d low (saving, cannot, is) = step_data s file known old m error d.in_step
+    low cannot
 
 -- an effect was performed and its end reported
-effect_ended : (s : WavSpecEx) (file : Begun) (known : List Known) (old new r : Recorder)
-    (m : MediumState) (end : Log) (effect : Effect) (result : Result (Unit {0}) IoFault)
-    (outcome : Result (Unit {0}) RecorderError) → Directed s file known old m → MaySave old.phase
-    → NextEffect true old r (Ok (Some effect)) → Performs effect result m end.state
-    → EffectEnds (is_ok result) old r (Ok (Some effect)) new outcome
-    → Directed s file (known ++ cut_known outcome) new end.state
-effect_ended s file known old new r m end effect (Ok x) outcome d may next did (ok, is) =
-    rw (ok, append-nil known, is) (subst (λ (x : Recorder). Directed s file known x end.state) (sym next.4)
-    (moved s file known known old (record old { number = old.number + 1 }) m end.state old.phase old.has_rest d
-    (subst (λ (r : Recorder). InStep s file known r true end.state) next.4
-    (step_effect s file known old r true m end effect (Ok x) d.in_step next did))
-    (refl, refl, refl) (waits old.phase may d.block)))
+effect_ended : (s : WavSpecEx) (file : Begun) (known : List Known) (old new : Recorder) (m : MediumState) (end : Log)
+    (effect : Effect) (result : Result (Unit {0}) IoFault) (outcome : Result (Unit {0}) RecorderError)
+    → Directed s file known old m → MaySave old.phase → HasNext effect old → Performs effect result m end.state
+    → EffectEnds (is_ok result) effect old new outcome → Directed s file (known ++ cut_known outcome) new end.state
+effect_ended s file known old new m end effect (Ok x) outcome d may next did (is, ok) =
+    rw (ok, append-nil known, is) (moved s file known known old (record old { number = old.number + 1 }) m end.state
+    old.phase old.has_rest d (step_effect s file known old m end effect d.in_step next did) (refl, refl, refl)
+    (waits old.phase may d.block))
   where
     waits : (phase : Phase) → MaySave phase → HasPlace phase old
         → HasPlace phase (record old { number = old.number + 1 })
@@ -295,14 +302,9 @@ effect_ended s file known old new r m end effect (Ok x) outcome d may next did (
     waits Idle never place = absurd never
     waits Cleaning never place = absurd never
     waits (Writing n) never place = absurd never
-effect_ended s file known old new r m end effect (Err e) outcome d may next did (last, error, failed, err, is) =
-    let mid = step_effect s file known old r true m end effect (Err e) d.in_step next did in
-    let low : IsAlive r = rw next.4 next.0 in
-    let (none, step) = step_cut s file known r last false end.state error mid low failed in
-    let (len, width, channels) = keeps_data true old r (Ok (Some effect)) next in
-    let (len2, width2, channels2) = keeps_data false r last (Err error) failed in
-    rw (err, is) (moved s file known (known ++ marked publish false ∷ []) old last m end.state Idle last.has_rest d step
-    (len2 ∙ len, width2 ∙ width, channels2 ∙ channels) tt)
+effect_ended s file known old new m end effect (Err e) outcome d may next did (is, err) =
+    rw (err, is) (moved s file known (known ++ marked publish false ∷ []) old _ m end.state Idle old.has_rest d
+    (step_cut s file known old m end effect e d.in_step next did) (refl, refl, refl) tt)
 
 -- a phase that is one of a checkpoint is no other
 may_be : (r : Recorder) → IsSaving r → MaySave r.phase
@@ -313,23 +315,25 @@ pub directing_performed : (s : WavSpecEx) (file : Begun) (known : List Known) (o
     (outcome : Result (Unit {0}) RecorderError) → Directed s file known old m
     → GoesOn old mid (Ok (Some (Perform effect))) → Performs effect result m end.state
     → HasEnded (is_ok result) mid new outcome → Directed s file (known ++ cut_known outcome) new end.state
-directing_performed s file known old mid new m end effect result outcome d (saving, same, r, next) did ended =
+directing_performed s file known old mid new m end effect result outcome d (saving, next, same) did ended =
     by (subst (λ x. HasEnded (is_ok result) x new outcome) same ended)
   where
     may : MaySave old.phase
     may = may_be old saving
+
+    ends : EndsEffect (is_ok result) old new outcome → Directed s file (known ++ cut_known outcome) new end.state
+    ends (inl (other, also, given)) =
+        effect_ended s file known old new m end effect result outcome d may next did
+        (subst (λ x. EffectEnds (is_ok result) x old new outcome) (one_next old other effect also next) given)
+    ends (inr (inl (none, _, _))) = absurd (not_done old effect next none)
+    ends (inr (inr (error, cannot, _, _))) = absurd (step_data s file known old m error d.in_step next.0.0 cannot)
 
     by : HasEnded (is_ok result) old new outcome → Directed s file (known ++ cut_known outcome) new end.state
     by (inl (none, is, _)) = absurd (rw none at may)
     by (inr (inl (cleaning, is, _))) = absurd (rw cleaning at may)
     by (inr (inr (inl (_, _, rest, is, _)))) = absurd (false≢true (sym saving.0 ∙ rest))
     by (inr (inr (inr (inl (n, writing, _, _, _))))) = absurd (rw writing at may)
-    by (inr (inr (inr (inr (_, _, (after, step, stepped, ends)))))) =
-        let (is, one) = same_next old r after (Some effect) step next stepped in
-        effect_ended s file known old new r m end effect result outcome d may next did
-        (subst (λ (x : Recorder × Result (Option Effect) RecorderError). EffectEnds (is_ok result) old x.0 x.1 new
-        outcome)
-        (λ i. (one i, is i)) ends)
+    by (inr (inr (inr (inr (_, _, ended))))) = ends ended
 
 -- a block of whole frames is of whole samples
 of_samples : (n f c w more : ℕ) → n ≡ more + f * c * w → (n - more) % w ≡ 0
@@ -367,7 +371,7 @@ directing_wrote s file known old new n m end bytes result outcome d writing rest
         → IsClear old
         → ((r : Recorder) → r ≡
         (if is_ok result then record old { data_length = n } else record old { health = Suspect })
-        → InStep s file (known ++ block_known bytes (is_ok result) s ∷ []) r true end.state)
+        → InStep s file (known ++ block_known bytes (is_ok result) s ∷ []) r end.state)
         → new ≡ after_block (is_ok result) n old
         → Directed s file (known ++ block_known bytes (is_ok result) s ∷ []) new end.state
     by (Ok x) frames more clear step is =

@@ -1,7 +1,44 @@
 -- What a caller does as its recorder directs are calls of a writer.
 use Rattle.std.proofs.lemmas.Grind.{common_steps}
 use Rattle.std.proofs.lemmas.Bool.{false≢true}
-use Rattle.std.proofs.Common.{◌≡◌, ℕ, zero, suc, ◌+◌, ◌*◌, ◌/◌, ◌%◌, ◌<◌, ◌≤◌, Bool, true, false, IsTrue, List, [], ◌∷◌, ◌++◌, length, drop, take, inl, inr, Some, None, Result, Ok, Err, is_ok, refl, rules, sym, ◌∙◌, ap, subst, arith}
+use Rattle.std.proofs.Common.{
+  ◌≡◌,
+  ℕ,
+  zero,
+  suc,
+  ◌+◌,
+  ◌*◌,
+  ◌/◌,
+  ◌%◌,
+  ◌<◌,
+  ◌≤◌,
+  Bool,
+  true,
+  false,
+  IsTrue,
+  List,
+  [],
+  ◌∷◌,
+  ◌++◌,
+  length,
+  drop,
+  take,
+  inl,
+  inr,
+  Some,
+  None,
+  Result,
+  Ok,
+  Err,
+  is_ok,
+  refl,
+  rules,
+  sym,
+  ◌∙◌,
+  ap,
+  subst,
+  arith,
+}
 use Rattle.std.proofs.Math.Nat.{mul-div_cancel}
 use Rattle.std.specs.Prelude.{if◌then◌else◌}
 use Rattle.std.specs.declared.io.Error.{Error as IoFault}
@@ -17,11 +54,47 @@ use Rattle.hound_walk.specs.{Head, Readable}
 use Rattle.hound_writer.specs.Accepting.{mark_of, whole_containers}
 use Rattle.hound_writer.specs.Appending.{head_fault}
 use Rattle.hound_writer.specs.Beginning.{Begins, at_beginning}
-use Rattle.hound_writer.specs.Calls.{Asked, Begun, Does, Known, Opens, Recorded, handed_in, marked, new_file, publish, write}
+use Rattle.hound_writer.specs.Calls.{
+  Asked,
+  Begun,
+  Does,
+  Known,
+  Opens,
+  Recorded,
+  handed_in,
+  marked,
+  new_file,
+  publish,
+  write,
+}
 use Rattle.hound_writer.specs.Effects.{Log, Performed, Performs, checkpoint, log_kind, nth}
 use Rattle.hound_writer.specs.Parts.{IsPublishResult, PutsAt, of_fields}
-use Rattle.hound_writer.specs.Recorder.{AppendsRecorder, HasData, HasFailed, IsAlive, IsClear, NextEffect, effects_of, is_sound, recorder_of}
-use Rattle.hound_writer.specs.Recording.{InStep, IsIdle, IsOrdered, IsRecorderOf, IsSynced, Opened, Resumed, block_known, resumed_file}
+use Rattle.hound_writer.specs.Recorder.{
+  AppendsRecorder,
+  CannotSave,
+  HasData,
+  HasNext,
+  HasNoNext,
+  IsAlive,
+  IsClear,
+  effects_of,
+  health_after,
+  is_sound,
+  recorder_of,
+  saved,
+  stopped,
+}
+use Rattle.hound_writer.specs.Recording.{
+  InStep,
+  IsIdle,
+  IsOrdered,
+  IsRecorderOf,
+  IsSynced,
+  Opened,
+  Resumed,
+  block_known,
+  resumed_file,
+}
 use Rattle.hound_writer.specs.Writer.{WriterState, HasRoom, IsSound, accepted_samples, sample_count}
 use Rattle.hound_writer.specs.declared.effects.Effect.{Effect}
 use Rattle.hound_writer.specs.declared.effects.Effect.TheVariants.{Sync}
@@ -29,7 +102,16 @@ use Rattle.hound_writer.specs.declared.recorder.Health.{Health}
 use Rattle.hound_writer.specs.declared.recorder.Health.TheVariants.{Sound, Suspect, Dead}
 use Rattle.hound_writer.specs.declared.recorder.Recorder.{Recorder}
 use Rattle.hound_writer.specs.declared.recorder.RecorderError.{RecorderError}
-use Rattle.hound_writer.specs.declared.recorder.RecorderError.TheVariants.{NotWritable, UnfinishedFrame, TooLong, Truncated, NeedsMend, NeedsOverwrite, NeedsCheckpoint, SyncFailed}
+use Rattle.hound_writer.specs.declared.recorder.RecorderError.TheVariants.{
+  NotWritable,
+  UnfinishedFrame,
+  TooLong,
+  Truncated,
+  NeedsMend,
+  NeedsOverwrite,
+  NeedsCheckpoint,
+  SyncFailed,
+}
 use Rattle.hound_writer.specs.declared.resuming.FoundFile.{FoundFile}
 use Rattle.hound_writer.proofs.Accepting.{accepts_all, accepts_none, sound_more, still}
 use Rattle.hound_writer.proofs.Appending.{follows, sound_head, at_most_on}
@@ -38,7 +120,14 @@ use Rattle.hound_writer.proofs.Checkpoint.{as_out, bad, fine, good_over, publish
 use Rattle.hound_writer.proofs.Containers.{count_bytes}
 use Rattle.hound_writer.proofs.Heads.{head_beyond}
 use Rattle.hound_writer.proofs.Opening.{all_put, header_opened}
-use Rattle.hound_writer.proofs.Ordering.{all_ordered, effects_ordered, header_in_order, in_order_none, puts_in_order, taken_ordered}
+use Rattle.hound_writer.proofs.Ordering.{
+  all_ordered,
+  effects_ordered,
+  header_in_order,
+  in_order_none,
+  puts_in_order,
+  taken_ordered,
+}
 use Rattle.hound_writer.proofs.Recording.{recorded_first, recorded_more, recorded_spec}
 use Rattle.hound_writer.proofs.Samples.{samples_out}
 use Rattle.hound_writer.proofs.AtMost.{at_most_more}
@@ -120,7 +209,7 @@ at_rest : (s : WavSpecEx) (file : Begun) (known : List Known) (r : Recorder) (w 
     → Recorded log_kind s file known w → IsIdle w → IsRecorderOf r w → r.number ≡ 0
     → (IsSynced (handed_in file) → (high : ℕ) × IsOrdered high w.medium.state
     × (r.health ≡ Sound → high ≤ r.data_start + r.data_length))
-    → InStep s file known r true w.medium.state
+    → InStep s file known r w.medium.state
 at_rest s file known r w recorded idle is none order = record {
   writer = w;
   recorded = recorded;
@@ -129,8 +218,6 @@ at_rest s file known r w recorded idle is none order = record {
   order = order;
   log = w.medium;
   state = refl;
-  result = Ok tt;
-  last = λ some. absurd (omega (arith, some, none));
   performed = rw none (refl, refl);
 }
 
@@ -141,7 +228,7 @@ has_room r w n more is none long given = grind (arith, common_steps)
 
 -- a new file that was begun, in the medium as it was at its beginning
 pub step_new : (s : WavSpecEx) (given : MediumState) (log : Log) → Opened s given log.state → IsWritable s
-    → InStep s (new_file (at_beginning given)) [] (recorder_of s (data_start s) 0) true log.state
+    → InStep s (new_file (at_beginning given)) [] (recorder_of s (data_start s) 0) log.state
 step_new s given log opened writable =
     let r = recorder_of s (data_start s) 0 in
     let old = at_beginning given in
@@ -183,7 +270,7 @@ pub step_resumed : (f : FoundFile) (samples : ℕ) (old : MediumState) (log : Lo
     → Resumed f samples old log.state → f.data_start + f.data_length ≤ f.length
     → AppendsRecorder f.spec_ex f.data_start f.data_length (Ok (recorder_of f.spec_ex f.data_start f.data_length))
     → InStep f.spec_ex (resumed_file f.spec_ex samples f.data_start old) []
-    (recorder_of f.spec_ex f.data_start f.data_length) true log.state
+    (recorder_of f.spec_ex f.data_start f.data_length) log.state
 step_resumed f samples old log is enough (channels, pair, frames, (far, wide, fits), same) =
     let s = f.spec_ex in
     let start = f.data_start in
@@ -217,9 +304,9 @@ step_resumed f samples old log is enough (channels, pair, frames, (far, wide, fi
     ))
 
 -- no effect is under way
-pub at_none : (r : Recorder) (result : Result (Unit {0}) IoFault) (first last : Log) → r.number ≡ 0
-    → Performed (take r.number (effects_of r)) result first last → (result ≡ Ok tt) × (last ≡ first)
-at_none r result first last none did = rw none at did
+pub at_none : (r : Recorder) (first last : Log) → r.number ≡ 0
+    → Performed (take r.number (effects_of r)) (Ok tt) first last → last ≡ first
+at_none r first last none did = let (ok, same) = rw none at did in same
 
 -- the recorder after the report of a block
 reported : (old new : Recorder) (w : WriterState Log) (end : Log) (n more : ℕ)
@@ -233,13 +320,13 @@ reported old new w end n more result is none long same = grind (arith, common_st
 -- a block that was written where the recorder said, or a beginning of it
 pub step_block : (s : WavSpecEx) (file : Begun) (known : List Known) (old new : Recorder)
     (m : MediumState) (end : Log) (n : ℕ) (bytes : List ℕ) (result : Result (Unit {0}) IoFault)
-    → InStep s file known old true m → IsClear old → HasData old n → n ≡ old.data_length + length bytes
+    → InStep s file known old m → IsClear old → HasData old n → n ≡ old.data_length + length bytes
     → length bytes % old.bytes_per_sample ≡ 0 → PutsAt true (old.data_start + old.data_length) bytes result m end.state
     → new ≡ (if is_ok result then record old { data_length = n } else record old { health = Suspect })
-    → InStep s file (known ++ block_known bytes (is_ok result) s ∷ []) new true end.state
+    → InStep s file (known ++ block_known bytes (is_ok result) s ∷ []) new end.state
 step_block s file known old new m end n bytes result d (clean, none) has long containers puts is =
     let w = d.writer in
-    let (done, same) = at_none old d.result w.medium d.log none d.performed in
+    let same = at_none old w.medium d.log none d.performed in
     let here : m ≡ w.medium.state = sym d.state ∙ ap log_kind.state same in
     let at : old.data_start + old.data_length ≡ w.data_start + w.bytes_written = omega (arith, d.is.0, d.is.1) in
     let whole : length bytes % w.spec_ex.bytes_per_sample ≡ 0 = rw d.is.2 at containers in
@@ -293,21 +380,12 @@ performed_all (one ∷ effects) (suc k) r first last all (m, Ok x, done, rest) =
     (m, Ok x, done, performed_all effects k r m last all rest)
 performed_all (one ∷ effects) (suc k) r first last all (m, Err e, done, end) = (m, Err e, done, end)
 
--- all were Ok so far
-all_ok : (r : Result (Unit {0}) IoFault) (effects : List Effect) (k : ℕ) (ok : Bool) (first last : Log)
-    → (0 < k → is_ok r ≡ ok) → (0 < k → ok ≡ true) → Performed (take k effects) r first last → r ≡ Ok tt
-all_ok r effects k ok first last is so did = grind (arith, common_steps)
-
--- an effect that the recorder returned was performed
-pub step_effect : (s : WavSpecEx) (file : Begun) (known : List Known) (old new : Recorder) (ok : Bool)
-    (m : MediumState) (end : Log) (effect : Effect) (result : Result (Unit {0}) IoFault)
-    → InStep s file known old ok m → NextEffect ok old new (Ok (Some effect))
-    → Performs effect result m end.state → InStep s file known new (is_ok result) end.state
-step_effect s file known old new ok m end effect result d (low, so, has, at, is) did =
-    let one : suc old.number ≡ old.number + 1 = omega arith in
-    let before = rw (all_ok d.result (effects_of old) old.number ok d.writer.medium d.log d.last so d.performed) at
-    d.performed in
-    subst (λ r. InStep s file known r (is_ok result) end.state) (sym is) (record {
+-- an effect that was next is done
+pub step_effect : (s : WavSpecEx) (file : Begun) (known : List Known) (old : Recorder) (m : MediumState) (end : Log)
+    (effect : Effect) → InStep s file known old m → HasNext effect old
+    → Performs effect (Ok tt) m end.state → InStep s file known (record old { number = old.number + 1 }) end.state
+step_effect s file known old m end effect d (can, at) did =
+    let one : suc old.number ≡ old.number + 1 = omega arith in record {
       writer = d.writer;
       recorded = d.recorded;
       idle = d.idle;
@@ -315,93 +393,83 @@ step_effect s file known old new ok m end effect result d (low, so, has, at, is)
       order = d.order;
       log = end;
       state = refl;
-      result = result;
-      last = λ some. refl;
-      performed = rw one at (performed_more (effects_of old) old.number effect result d.writer.medium d.log end at
-          before
-          (rw (sym d.state) at did));
-    })
+      performed = rw one at (performed_more (effects_of old) old.number effect (Ok tt) d.writer.medium d.log end (sym
+          at)
+          d.performed (rw (sym d.state) at did));
+    }
 
 pub sound_is : (health : Health) → is_sound health ≡ true → health ≡ Sound
 sound_is health is = grind (arith, common_steps)
 
--- a checkpoint that has ended
-ended : (s : WavSpecEx) (file : Begun) (known : List Known) (old : Recorder) (ok : Bool) (m : MediumState)
-    (health : Health) (d : InStep s file known old ok m)
-    → (is_ok d.result ≡ true → None ≡ nth (effects_of old) old.number)
-    → (health ≡ Sound → is_ok d.result ≡ true)
-    → InStep s file (known ++ marked publish (is_ok d.result) ∷ [])
-    (record old { number = 0; health = health }) true m
-ended s file known old ok m health d all clean =
+-- a checkpoint whose effects were performed, all or up to one that failed
+ended : (s : WavSpecEx) (file : Begun) (known : List Known) (old : Recorder) (m : MediumState) (end : Log)
+    (health : Health) (result : Result (Unit {0}) IoFault) (d : InStep s file known old m)
+    → Performed (effects_of old) result d.writer.medium end → (health ≡ Sound → is_ok result ≡ true)
+    → InStep s file (known ++ marked publish (is_ok result) ∷ []) (record old { number = 0; health = health }) end.state
+ended s file known old m end health result d whole clean =
     let w = d.writer in
-    let whole = performed_all (effects_of old) old.number d.result w.medium d.log all d.performed in
     let did : Performed (if is_sound old.health then checkpoint w.data_start w.bytes_written
-    else Sync ∷ checkpoint w.data_start w.bytes_written) d.result w.medium d.log = rw (d.is.0, d.is.1) at whole in
-    let call = save_call (is_sound old.health) d.result w d.log d.idle did in
-    let next = record w { medium = d.log } in
-    let recorded = recorded_more log_kind (marked publish (is_ok d.result)) publish call.answer s file known w
+    else Sync ∷ checkpoint w.data_start w.bytes_written) result w.medium end = rw (d.is.0, d.is.1) at whole in
+    let call = save_call (is_sound old.health) result w end d.idle did in
+    let next = record w { medium = end } in
+    let recorded = recorded_more log_kind (marked publish (is_ok result)) publish call.answer s file known w
     next (refl, call.mark) d.recorded call.does in
-    subst (InStep s file (known ++ marked publish (is_ok d.result) ∷ []) (record old { number = 0; health = health })
-    true)
-    d.state
-    (at_rest s file (known ++ marked publish (is_ok d.result) ∷ []) (record old { number = 0; health = health }) next
+    at_rest s file (known ++ marked publish (is_ok result) ∷ []) (record old { number = 0; health = health }) next
     recorded call.idle d.is refl (λ synced.
     let (high, order, low) = d.order synced in
-    let (top, now, small) = all_ordered (effects_of old) high (old.data_start + old.data_length) d.result w.medium d.log
+    let (top, now, small) = all_ordered (effects_of old) high (old.data_start + old.data_length) result w.medium end
     (effects_ordered (is_sound old.health) old.data_start old.data_length high
     (omega (arith, d.idle.sound.after_head, d.is.0)) (λ clean. low (sound_is old.health clean))) order whole in
-    (top, now, λ is. small (clean is))))
+    (top, now, λ is. small (clean is)))
 
-pub step_save : (s : WavSpecEx) (file : Begun) (known : List Known) (old new : Recorder) (ok : Bool)
-    (m : MediumState) → InStep s file known old ok m → NextEffect ok old new (Ok None)
-    → InStep s file (known ++ marked publish true ∷ []) new true m
-step_save s file known old new ok m d (low, so, has, at, is) =
-    let done = all_ok d.result (effects_of old) old.number ok d.writer.medium d.log d.last so d.performed in
-    subst (λ (x : Bool × Recorder). InStep s file (known ++ marked publish x.0 ∷ []) x.1 true m)
-    (λ i. (is_ok (done i), sym is i))
-    (ended s file known old ok m Sound d (λ _. at) (λ _. ap is_ok done))
+-- all effects are done
+pub step_save : (s : WavSpecEx) (file : Begun) (known : List Known) (old : Recorder) (m : MediumState)
+    → InStep s file known old m → HasNoNext old
+    → InStep s file (known ++ marked publish true ∷ []) (saved old) m
+step_save s file known old m d (can, at) =
+    subst (InStep s file (known ++ marked publish true ∷ []) (saved old)) d.state
+    (ended s file known old m d.log Sound (Ok tt) d
+    (performed_all (effects_of old) old.number (Ok tt) d.writer.medium d.log (λ _. sym at) d.performed) (λ _. refl))
 
--- it has ended in an error: an effect has failed
-cut_off : (s : WavSpecEx) (file : Begun) (known : List Known) (old new : Recorder) (ok : Bool)
-    (m : MediumState) (health : Health) → (health ≡ Sound → ⊥) → InStep s file known old ok m → HasFailed ok old
-    → new ≡ record old { number = 0; health = health }
-    → (new.number ≡ 0) × InStep s file (known ++ marked publish false ∷ []) new true m
-cut_off s file known old new ok m health some d (low, begun, failed) is =
-    let result_is : is_ok d.result ≡ false = d.last begun ∙ failed in (
-      ap (λ (x : Recorder). x.number) is,
-      subst (λ (x : Bool × Recorder). InStep s file (known ++ marked publish x.0 ∷ []) x.1 true m)
-          (λ i. (result_is i, sym is i))
-          (ended s file known old ok m health d (λ fine. absurd (false≢true (sym result_is ∙ fine)))
-          (λ none. absurd (some none))),
-    )
+-- after a failure a recorder isn't sound
+not_sound : (effect : Effect) → health_after effect ≡ Sound → ⊥
+not_sound effect is = grind (arith, common_steps)
 
-pub step_cut : (s : WavSpecEx) (file : Begun) (known : List Known) (old new : Recorder) (ok : Bool)
-    (m : MediumState) (error : RecorderError) → InStep s file known old ok m → IsAlive old
-    → NextEffect ok old new (Err error)
-    → (new.number ≡ 0) × InStep s file (known ++ marked publish false ∷ []) new true m
-step_cut s file known old new ok m SyncFailed d low (is, inl dead) = absurd (low dead)
-step_cut s file known old new ok m SyncFailed d low (is, inr (has, sync)) =
-    cut_off s file known old new ok m Dead (λ sound. cc sound) d has is
-step_cut s file known old new ok m NeedsCheckpoint d low (is, has, other) =
-    cut_off s file known old new ok m Suspect (λ sound. cc sound) d has is
-step_cut s file known old new ok m NotWritable d low (is, _, never) =
+-- an effect that was next has failed
+pub step_cut : (s : WavSpecEx) (file : Begun) (known : List Known) (old : Recorder) (m : MediumState) (end : Log)
+    (effect : Effect) (e : IoFault) → InStep s file known old m → HasNext effect old
+    → Performs effect (Err e) m end.state
+    → InStep s file (known ++ marked publish false ∷ []) (record old { number = 0; health = health_after effect })
+    end.state
+step_cut s file known old m end effect e d (can, at) did =
+    let begun = performed_more (effects_of old) old.number effect (Err e) d.writer.medium d.log end (sym at) d.performed
+    (rw (sym d.state) at did) in
+    ended s file known old m end (health_after effect) (Err e) d
+    (performed_all (effects_of old) (suc old.number) (Err e) d.writer.medium end (λ fine. absurd (false≢true fine))
+    begun) (λ clean. absurd (not_sound effect clean))
+
+-- the data of a file that is in step are those of one
+pub step_data : (s : WavSpecEx) (file : Begun) (known : List Known) (r : Recorder) (m : MediumState)
+    (error : RecorderError) → InStep s file known r m → IsAlive r → CannotSave r error → ⊥
+step_data s file known r m SyncFailed d low dead = low dead
+step_data s file known r m NotWritable d low (_, never) =
     let sound = d.idle.sound in let fields = d.is in grind (arith, common_steps)
-step_cut s file known old new ok m TooLong d low (is, _, never) =
+step_data s file known r m TooLong d low (_, never) =
     let sound = d.idle.sound in let none = d.idle.none in let fields = d.is in grind (arith, common_steps)
-step_cut s file known old new ok m UnfinishedFrame d low (is, _, never) = absurd never
-step_cut s file known old new ok m Truncated d low (is, _, never) = absurd never
-step_cut s file known old new ok m NeedsMend d low (is, _, never) = absurd never
-step_cut s file known old new ok m NeedsOverwrite d low (is, _, never) = absurd never
+step_data s file known r m NeedsCheckpoint d low (_, never) = never
+step_data s file known r m UnfinishedFrame d low (_, never) = never
+step_data s file known r m Truncated d low (_, never) = never
+step_data s file known r m NeedsMend d low (_, never) = never
+step_data s file known r m NeedsOverwrite d low (_, never) = never
 
 -- within a checkpoint, too, places ascend
-pub step_ascends : (s : WavSpecEx) (file : Begun) (known : List Known) (r : Recorder) (ok : Bool)
-    (m : MediumState) → InStep s file known r ok m → IsSynced (handed_in file)
-    → Ascends m.past m.flushed (length m.past)
-step_ascends s file known r ok m d synced =
+pub step_ascends : (s : WavSpecEx) (file : Begun) (known : List Known) (r : Recorder) (m : MediumState)
+    → InStep s file known r m → IsSynced (handed_in file) → Ascends m.past m.flushed (length m.past)
+step_ascends s file known r m d synced =
     let (high, order, low) = d.order synced in
     let (last, ordered) = taken_ordered (effects_of r) r.number high (r.data_start + r.data_length)
     (effects_ordered (is_sound r.health) r.data_start r.data_length high
     (omega (arith, d.idle.sound.after_head, d.is.0)) (λ clean. low (sound_is r.health clean))) in
     let (top, now, small) =
-    all_ordered (take r.number (effects_of r)) high last d.result d.writer.medium d.log ordered order d.performed in
+    all_ordered (take r.number (effects_of r)) high last (Ok tt) d.writer.medium d.log ordered order d.performed in
     subst (λ (m : MediumState). Ascends m.past m.flushed (length m.past)) d.state now.ascends

@@ -1,14 +1,14 @@
 -- A file that its caller has begun: all that was written to it is the header.
 use Rattle.std.proofs.lemmas.Grind.{common_steps}
-use Rattle.std.proofs.Common.{◌≡◌, ℕ, ◌+◌, ◌≤◌, true, List, [], ◌∷◌, ◌++◌, length, take, drop, Result, Ok, Err, refl, sym, ◌∙◌, ap, subst, arith, append_assoc, length-append, length-drop, length-take, take-append-drop}
+use Rattle.std.proofs.Common.{◌≡◌, ◌⊎◌, inl, inr, ℕ, ◌+◌, ◌≤◌, true, List, [], ◌∷◌, ◌++◌, length, take, drop, Result, Ok, Err, refl, sym, ◌∙◌, ap, subst, arith, append_assoc, length-append, length-drop, length-take, take-append-drop}
 use Rattle.std.proofs.lemmas.List.{take_all}
 use Rattle.std.specs.declared.io.Error.{Error as IoFault}
-use Rattle.hound_medium.specs.{MediumState, PutsAll, placed}
+use Rattle.hound_medium.specs.{MediumState, PutsAll, Stays, overlay, placed}
 use Rattle.hound_medium.proofs.Overlays.{overlay-append, placed-append}
 use Rattle.hound_spec.specs.{data_start, header}
 use Rattle.hound_spec.specs.declared.spec.WavSpecEx.{WavSpecEx}
 use Rattle.hound_spec.proofs.HeaderLemmas.{data_start_least, length-header}
-use Rattle.hound_writer.specs.Beginning.{DoesBeginning, DoesBeginnings, at_beginning, beginning, header_part}
+use Rattle.hound_writer.specs.Beginning.{DoesBeginning, DoesBeginnings, Empties, IsEmpty, at_beginning, beginning, header_part}
 use Rattle.hound_writer.specs.declared.effects.BeginningEffect.{BeginningEffect}
 use Rattle.hound_writer.specs.declared.effects.BeginningEffect.TheVariants.{Empty, Header, Sync, SyncFolder}
 use Rattle.hound_writer.specs.Parts.{PutsAt}
@@ -55,7 +55,7 @@ pub header_opened : (s : WavSpecEx) (old new : MediumState) → Opened s old new
 header_opened s old new opened =
     let (named, stays, from_named) = first_done s SyncFolder (Empty ∷ Sync ∷ Header 0 ∷ Header 40 ∷ []) old new
     opened in
-    let (emptied, cut, from_emptied) = first_done s Empty (Sync ∷ Header 0 ∷ Header 40 ∷ []) named new from_named in
+    let (emptied, empties, from_emptied) = first_done s Empty (Sync ∷ Header 0 ∷ Header 40 ∷ []) named new from_named in
     let (synced, flushes, from_synced) = first_done s Sync (Header 0 ∷ Header 40 ∷ []) emptied new from_emptied in
     let (first, one, from_first) = first_done s (Header 0) (Header 40 ∷ []) synced new from_synced in
     let (last, two, from_last) = first_done s (Header 40) [] first new from_first in
@@ -64,20 +64,20 @@ header_opened s old new opened =
     let start = at_beginning old in
     let long : length h ≡ data_start s = length-header s 0 0 in
     let whole = parts_of_header s in
-    let same : old ≡ emptied = sym (cut ∙ stays) in
+    let none = empties.done in
     let keeps = flushes.stays in
-    let all = flushes.flushed in
-    let fails = flushes.faults in
+    let past : synced.past ≡ [] = keeps.past ∙ none.past refl in
     let from : PutsAt {T = Unit {0}} {E = IoFault} true 0 (header_part s 0) (Ok tt) start first = record {
       count = one.count;
       within = one.within;
       whole = one.whole;
-      contents = grind (common_steps, arith);
+      contents = one.contents
+          ∙ ap (λ l. overlay l (placed 0 (take one.count (header_part s 0)))) (keeps.contents ∙ none.contents);
       place = one.place;
-      start = grind (common_steps, arith);
-      past = λ t. grind (common_steps, arith);
-      flushed = grind (common_steps, arith);
-      faults = grind (common_steps, arith);
+      start = one.start ∙ keeps.start ∙ none.start refl;
+      past = λ t. one.past t ∙ ap (λ l. l ++ placed 0 (take one.count (header_part s 0))) past;
+      flushed = one.flushed ∙ flushes.flushed ∙ ap length past;
+      faults = one.faults ∙ flushes.faults ∙ empties.faults ∙ ap (λ (m : MediumState). m.faults) stays;
     } in
     let next : 40 ≡ 0 + length (header_part s 0) = omega (arith, long, data_start_least s, length-take 40 (drop 0 h)) in
     grind (arith, common_steps, both_put)
@@ -156,16 +156,43 @@ front_from_sync s result old new (synced, Ok x, flushes, others) =
 front_from_sync s result old new (synced, Err e, flushes, others) =
     subst (λ m. PutsFront s old m) (sym others.1) (no_front s old synced flushes.stays.start flushes.stays.past)
 
-front_from_empty : (s : WavSpecEx) (result : Result (Unit {0}) IoFault) (old new : MediumState)
+-- a file in which nothing was written before
+abbrev IsUnwritten : MediumState → Type 0
+IsUnwritten m = (m.start ≡ []) × (m.past ≡ [])
+
+front_as : (s : WavSpecEx) (old mid new : MediumState) → IsUnwritten old → IsUnwritten mid → PutsFront s mid new
+    → PutsFront s old new
+front_as s old mid new (none, never) (empty, nothing) b = record {
+  front = b.front;
+  rest = b.rest;
+  parts = b.parts;
+  start = b.start ∙ empty ∙ sym none;
+  past = b.past ∙ ap (λ l. l ++ placed 0 b.front) (nothing ∙ sym never);
+}
+
+-- a cut leaves nothing of it
+unwritten : (result : Result (Unit {0}) IoFault) (old new : MediumState) → IsUnwritten old → Empties true result old new
+    → IsUnwritten new
+unwritten result old new (none, never) empties = by empties.leaves
+  where
+    by : IsEmpty true new ⊎ Stays old new → IsUnwritten new
+    by (inl empty) = (empty.start refl, empty.past refl)
+    by (inr stays) = (stays.start ∙ none, stays.past ∙ never)
+
+front_from_empty : (s : WavSpecEx) (result : Result (Unit {0}) IoFault) (old new : MediumState) → IsUnwritten old
     → DoesBeginnings true s (Empty ∷ Sync ∷ Header 0 ∷ Header 40 ∷ []) result old new → PutsFront s old new
-front_from_empty s result old new (emptied, Ok x, stays, others) =
-    subst (λ m. PutsFront s m new) stays (front_from_sync s result emptied new others)
-front_from_empty s result old new (emptied, Err e, stays, others) =
-    subst (λ m. PutsFront s old m) (sym (others.1 ∙ stays)) (no_front s old old refl refl)
+front_from_empty s result old new none (emptied, Ok x, empties, others) =
+    front_as s old emptied new none (unwritten (Ok x) old emptied none empties)
+    (front_from_sync s result emptied new others)
+front_from_empty s result old new none (emptied, Err e, empties, others) =
+    front_as s old emptied new none (unwritten (Err e) old emptied none empties)
+    (subst (λ m. PutsFront s emptied m) (sym others.1) (no_front s emptied emptied refl refl))
 
 pub front_begun : (s : WavSpecEx) (result : Result (Unit {0}) IoFault) (old new : MediumState)
-    → DoesBeginnings true s beginning result old new → PutsFront s old new
-front_begun s result old new (named, Ok x, stays, others) =
-    subst (λ m. PutsFront s m new) stays (front_from_empty s result named new others)
-front_begun s result old new (named, Err e, stays, others) =
-    subst (λ m. PutsFront s old m) (sym (others.1 ∙ stays)) (no_front s old old refl refl)
+    → old.start ≡ [] → old.past ≡ [] → DoesBeginnings true s beginning result old new → PutsFront s old new
+front_begun s result old new none never (named, Ok x, stays, others) =
+    front_from_empty s result old new (none, never)
+    (subst (λ m. DoesBeginnings true s (Empty ∷ Sync ∷ Header 0 ∷ Header 40 ∷ []) result m new) stays others)
+front_begun s result old new none never (named, Err e, stays, others) =
+    let is = others.1 ∙ stays in
+    no_front s old new (ap (λ (m : MediumState). m.start) is) (ap (λ (m : MediumState). m.past) is)

@@ -1,15 +1,16 @@
 -- How a new file begins.
-use Rattle.std.specs.Prelude.{◌≡◌, ◌≤◌, ◌⊎◌, ℕ, max, Bool, List, [], ◌∷◌, drop, length, take, Option, Result, Ok, Err, MatchResult}
+use Rattle.std.specs.Prelude.{◌≡◌, ◌-◌, ◌<◌, ◌≤◌, ◌⊎◌, ℕ, max, Bool, true, false, IsTrue, List, [], ◌∷◌, drop, get_or, length, take, Option, None, Some, Result, Ok, Err, is_ok, MatchResult, OnOk}
 use Rattle.std.specs.declared.io.Error.{Error as IoFault}
 use Rattle.hound_spec.specs.declared.error.Error.{Error}
 use Rattle.hound_spec.specs.declared.error.Error.TheVariants.{OutOfMemory, Unsupported}
 use Rattle.hound_spec.specs.declared.spec.WavSpecEx.{WavSpecEx}
 use Rattle.hound_spec.specs.{header, data_start, IsWritable}
-use Rattle.hound_medium.specs.{Flushes, MediumState, PutsFirst, PutsAll, WhereTells}
+use Rattle.hound_durable.specs.{SurvivesLoss}
+use Rattle.hound_medium.specs.{Flushes, MediumState, PutsFirst, PutsAll, Stays, WhereTells, faults_after}
 use Rattle.hound_writer.specs.Accepting.{IsIoError}
 use Rattle.hound_writer.specs.Effects.{nth}
 use Rattle.hound_writer.specs.Parts.{PutsAt}
-use Rattle.hound_writer.specs.Writer.{Ghosts, WriterState, HasHeader, IsSound, IsWhole, IsCounted}
+use Rattle.hound_writer.specs.Writer.{Ghosts, WriterState, HasHeader, IsSound, IsWhole, IsCounted, field}
 use Rattle.hound_writer.specs.declared.effects.BeginningEffect.{BeginningEffect}
 use Rattle.hound_writer.specs.declared.effects.BeginningEffect.TheVariants.{Empty, Sync, SyncFolder, Header}
 use Rattle.hound_writer.specs.declared.recorder.RecorderError.{RecorderError}
@@ -69,13 +70,25 @@ abbrev pub BeginsWith : WavSpecEx → ℕ → Result (Option BeginningEffect) Re
 BeginsWith s number (Ok next) = IsWritable s × (next ≡ nth beginning number)
 BeginsWith s number (Err error) = (IsWritable s → ⊥) × (error ≡ NotWritable)
 
--- What one of them does to an empty file, which records every byte written or not: a cut leaves it empty, and a folder
--- holds no byte of it.
+-- a file without bytes, to which nothing was written
+pub record IsEmpty (keeps : Bool) (m : MediumState) : Type 0 where
+  pub contents : m.contents ≡ []
+  pub start : IsTrue keeps → m.start ≡ []
+  pub past : IsTrue keeps → m.past ≡ []
+
+-- what a cut at its first byte does to a file: it is empty then; at an Err it may be as it was
+pub record Empties (keeps : Bool) (result : Result (Unit {0}) IoFault) (old new : MediumState) : Type 0 where
+  pub leaves : IsEmpty keeps new ⊎ Stays old new
+  pub done : OnOk result (IsEmpty keeps new)
+  pub faults : new.faults ≡ faults_after result old.faults
+
+-- What one of them does to a file, which records every byte written or not: a folder holds no byte of it.
 abbrev pub DoesBeginning : Bool → WavSpecEx → BeginningEffect → Result (Unit {0}) IoFault → MediumState → MediumState
     → Type 0
-DoesBeginning keeps s (Header first) result old new = PutsAt keeps first (header_part s first) result old new
+DoesBeginning keeps s SyncFolder result old new = new ≡ record old { faults = faults_after result old.faults }
+DoesBeginning keeps s Empty result old new = Empties keeps result old new
 DoesBeginning keeps s Sync result old new = Flushes result old new
-DoesBeginning keeps s effect result old new = new ≡ old
+DoesBeginning keeps s (Header first) result old new = PutsAt keeps first (header_part s first) result old new
 
 -- these were done, one after the other, up to the first that failed
 abbrev pub DoesBeginnings : Bool → WavSpecEx → List BeginningEffect → Result (Unit {0}) IoFault → MediumState
@@ -86,6 +99,28 @@ DoesBeginnings keeps s (effect ∷ effects) result old new =
     × MatchResult this (λ _. DoesBeginnings keeps s effects result mid new)
     (λ fault. (result ≡ Err fault) × (new ≡ mid))
 
--- a medium as a caller begins a file in it: all of it is synced, and it is at its first byte
+-- a medium as a caller begins a file in it, once that is emptied and synced
 abbrev pub at_beginning : MediumState → MediumState
-at_beginning m = record m { place = 0; flushed = length m.past }
+at_beginning m = record { contents = []; place = 0; faults = m.faults; start = []; past = []; flushed = 0 }
+
+-- whether the file's name is stored once these are done
+abbrev pub stores_name : List BeginningEffect → Bool
+stores_name [] = false
+stores_name (SyncFolder ∷ effects) = true
+stores_name (effect ∷ effects) = stores_name effects
+
+-- what a loss of power leaves of a file: its bytes, or, where its name isn't stored, no file
+abbrev pub Remains : Bool → ℕ → MediumState → Option (List ℕ) → Type 0
+Remains is_named sector m None = is_named ≡ false
+Remains is_named sector m (Some left) = SurvivesLoss sector m.start m.past m.flushed (length m.past) left
+
+-- at most the header of a file without samples: each byte is one of it, or zero, and the data length is 0
+pub record HasAtMostHeader (s : WavSpecEx) (left : List ℕ) : Type 0 where
+  pub long : length left ≤ data_start s
+  pub bytes : (i : ℕ) → i < length left → (get_or left i 0 ≡ get_or (header s 0 0) i 0) ⊎ (get_or left i 0 ≡ 0)
+  pub none : field (data_start s - 4) left ≡ 0
+
+-- a file that may not be begun yet has at most its header, or there is none; once it is begun it is there
+abbrev pub LeavesBeginning : {T E : Type 0} → Result T E → WavSpecEx → Option (List ℕ) → Type 0
+LeavesBeginning result s None = is_ok result ≡ false
+LeavesBeginning result s (Some left) = HasAtMostHeader s left

@@ -3,7 +3,7 @@ pub use Rattle.hound_writer.specs.Accepting.{AcceptAnswer, Accepts, AcceptsBytes
 pub use Rattle.hound_writer.specs.Appending.{AnswersAppend, AppendAnswer, AppendFault, Appends, FailsCheck, FollowsData, HasOneAppendAnswer, IsAppendFault, IsFileError, IsMediumError, IsNotAppended, NamesFault, PutsNothing, appendable, by_bytes, faulty, too_long}
 unfoldable pub use Rattle.hound_writer.specs.Appending.{head_fault}
 pub use Rattle.hound_writer.specs.Batch.{IsSameFile, WritesToBatch, batch_bytes, batch_lender, batch_writer, remaining}
-pub use Rattle.hound_writer.specs.Beginning.{Begins, BeginsFile, BeginsWith, DoesBeginning, DoesBeginnings, HasBegun, IsNotBegun, PutsHeader, at_beginning, beginning, header_part}
+pub use Rattle.hound_writer.specs.Beginning.{Begins, BeginsFile, BeginsWith, DoesBeginning, DoesBeginnings, Empties, HasAtMostHeader, HasBegun, IsEmpty, IsNotBegun, LeavesBeginning, PutsHeader, Remains, at_beginning, beginning, header_part, stores_name}
 pub use Rattle.hound_writer.specs.Parts.{CountsAtMost, GoesAtEach, GoesOut, GoesToFile, HasSize, IsConsistent, IsLimit, IsPatched, IsPublishResult, Patches, PatchesAtEach, PutsAt, StaysAround, after_out, all_out, as_error, memory_bytes, of_fields}
 pub use Rattle.hound_writer.specs.Calls.{AreKnown, Asked, Begun, Call, Does, Ends, Extends, HadData, HasSameCalls, IsKnown, IsSeen, Known, Lead, LeftBy, Opens, RecordedBy, Seen, appended, asked_by_all, found_in, handed_in, made, mark_seen, marked, new_file, publish, result_seen, returned, start_of, unseen, with_memory, write}
 unfoldable pub use Rattle.hound_writer.specs.Calls.{Left, Recorded}
@@ -11,7 +11,7 @@ pub use Rattle.hound_writer.specs.Writer.{AreFrames, ChangesSizesOnly, Counts, G
 unfoldable pub use Rattle.hound_writer.specs.Writer.{with_sizes}
 pub use Rattle.hound_writer.specs.Publishing.{Checkpoints, Finishes, IsHalfPublished, IsOldOrNew, IsOutside, LeavesWriter, OncePutBefore, Publishes, PublishesAtEach, PublishesTo, PutsFrom, PutsLast, ReadsAs, place_after}
 pub use Rattle.hound_writer.specs.Effects.{Log, Performed, Performs, checkpoint, log_kind, nth, pad_effects, size_effects}
-pub use Rattle.hound_writer.specs.Recorder.{Abandons, Advances, AppendsRecorder, AsksForBlock, AsksForCheckpoint, BeginsRecorder, CutsOff, EffectEnds, EndsEffect, GivesUp, GoesOn, HadNothing, HandsOut, HasBlock, HasCleaned, HasCut, HasData, HasEffect, HasEnded, HasFailed, HasNoData, HasNothing, HasPerformed, HasRoomFor, HasSaved, HasStopped, HasWritten, IsAlive, IsClear, IsDue, IsSaving, LeavesRoom, MaySave, NextEffect, Saves, SavesFirst, Settles, TakesBlock, ThenGoesOn, advanced, after_block, cuts_next, doubted, effects_of, end_of, end_place, given_up, is_sound, length_with, recorder_of}
+pub use Rattle.hound_writer.specs.Recorder.{Advances, AppendsRecorder, AsksForBlock, AsksForCheckpoint, BeginsBlock, BeginsRecorder, CanSave, CannotSave, CutsOff, EffectEnds, EndsEffect, GivesUp, GoesOn, HadNothing, HasBlock, HasCleaned, HasCut, HasData, HasEffect, HasEnded, HasNext, HasNoData, HasNoNext, HasNothing, HasPerformed, HasRoomFor, HasSaved, HasStopped, HasWritten, IsAlive, IsClear, IsSaving, LeavesRoom, MaySave, RejectsBlock, Settles, TakesBlock, ThenGoesOn, after_block, cuts_next, doubted, effects_of, end_of, end_place, error_for, given_up, health_after, is_sound, length_with, once_rejected, recorder_of, saved, stopped}
 pub use Rattle.hound_writer.specs.Resuming.{ContinuesAfter, Resumes, ResumesAfter, ends_whole, found_frame, kept_as, kept_length, rest_follows, resumed_recorder}
 pub use Rattle.hound_writer.specs.Recording.{AgreeTo, Directed, HasPlace, HasRoomTo, InStep, IsCutOff, IsIdle, IsOrdered, IsRecorderOf, IsSynced, Opened, Resumed, block_known, cut_known, resumed_file, writer_of}
 pub use Rattle.hound_writer.specs.Repeating.{IsSaid, Repeats, written_first}

@@ -84,28 +84,44 @@ effects_of r =
     if is_sound r.health then checkpoint r.data_start r.data_length
     else Sync ∷ checkpoint r.data_start r.data_length
 
--- the recorder after it returned an effect, or that there is none
-abbrev pub advanced : Recorder → Option Effect → Recorder
-advanced r (Some effect) = record r { number = r.number + 1 }
-advanced r None = record r { number = 0; health = Sound }
-
 -- no sync has failed
 abbrev pub IsAlive : Recorder → Type 0
 IsAlive r = r.health ≡ Dead → ⊥
 
--- the last effect of a checkpoint has failed
-abbrev pub HasFailed : Bool → Recorder → Type 0
-HasFailed ok r = IsAlive r × (0 < r.number) × (ok ≡ false)
+-- a checkpoint can be made: no sync has failed, and a file can have such data
+abbrev pub CanSave : Recorder → Type 0
+CanSave r = IsAlive r × HasData r r.data_length
 
--- what a call for the next effect does, where `ok` is whether the last one succeeded
-abbrev pub NextEffect : Bool → Recorder → Recorder → Result (Option Effect) RecorderError → Type 0
-NextEffect ok old new (Ok next) = IsAlive old × (0 < old.number → ok ≡ true)
-    × HasData old old.data_length × (next ≡ nth (effects_of old) old.number) × (new ≡ advanced old next)
-NextEffect ok old new (Err SyncFailed) = (new ≡ record old { number = 0; health = Dead })
-    × ((old.health ≡ Dead) ⊎ (HasFailed ok old × (nth (effects_of old) (old.number - 1) ≡ Some Sync)))
-NextEffect ok old new (Err NeedsCheckpoint) = (new ≡ record old { number = 0; health = Suspect })
-    × HasFailed ok old × (nth (effects_of old) (old.number - 1) ≡ Some Sync → ⊥)
-NextEffect ok old new (Err error) = (new ≡ old) × IsAlive old × HasNoData old old.data_length error
+-- why none can be made
+abbrev pub CannotSave : Recorder → RecorderError → Type 0
+CannotSave r SyncFailed = r.health ≡ Dead
+CannotSave r error = IsAlive r × HasNoData r r.data_length error
+
+-- this effect of the checkpoint is next: as many of them are done as the recorder's number says
+abbrev pub HasNext : Effect → Recorder → Type 0
+HasNext effect r = CanSave r × (nth (effects_of r) r.number ≡ Some effect)
+
+-- all effects of the checkpoint are done
+abbrev pub HasNoNext : Recorder → Type 0
+HasNoNext r = CanSave r × (nth (effects_of r) r.number ≡ None)
+
+-- the recorder once its checkpoint is done
+abbrev pub saved : Recorder → Recorder
+saved r = record r { number = 0; health = Sound }
+
+-- the recorder once its checkpoint has ended in an error
+abbrev pub stopped : Recorder → Recorder
+stopped r = record r { number = 0; phase = Idle }
+
+-- the health of a recorder one of whose effects has failed: after a sync nobody knows what is stored
+abbrev pub health_after : Effect → Health
+health_after Sync = Dead
+health_after _ = Suspect
+
+-- the error of a call that a failure has ended
+abbrev pub error_for : Health → RecorderError
+error_for Dead = SyncFailed
+error_for _ = NeedsCheckpoint
 
 -- where the data of a recorder end
 abbrev pub end_of : Recorder → ℕ
@@ -121,24 +137,6 @@ cuts_next Idle rest = false
 cuts_next Cleaning rest = true
 cuts_next _ rest = rest
 
--- whether a checkpoint comes before a block
-abbrev pub SavesFirst : Bool → Recorder → Type 0
-SavesFirst true r = (r.health ≡ Sound → ⊥) ⊎ (0 < r.number)
-SavesFirst false r = IsClear r
-
--- the next effect of a checkpoint, or the recorder after the last one
-abbrev pub Saves : Recorder → Recorder → Result (Option Action) RecorderError → Type 0
-Saves old new (Ok (Some (Perform effect))) = (new ≡ old) × (r : Recorder) × NextEffect true old r (Ok (Some effect))
-Saves old new (Ok (Some action)) = ⊥
-Saves old new (Ok None) = NextEffect true old new (Ok None)
-Saves old new (Err error) = (r : Recorder) × NextEffect true old r (Err error) × (new ≡ record r { phase = Idle })
-
--- a block is handed out, to be written where the data end: after it they have n bytes
-abbrev pub HandsOut : ℕ → Recorder → Recorder → Action → Type 0
-HandsOut n old new (WriteBlock at len) = (at ≡ end_place old) × (len ≡ n - old.data_length)
-    × (new ≡ record old { phase = Writing n })
-HandsOut n old new _ = ⊥
-
 -- Table: what `next` returns, by the phase (Phase, `next` returns, the recorder then).
 -- | Idle | nothing: all is done | as it was |
 abbrev pub HasNothing : Recorder → Recorder → Type 0
@@ -146,8 +144,8 @@ HasNothing old new = (old.phase ≡ Idle) × (new ≡ old)
 
 -- | Saving, once no effect is left | nothing: all is done | Idle, and Sound |
 abbrev pub HasSaved : Recorder → Recorder → Type 0
-HasSaved old new = (old.phase ≡ Saving) × (old.has_rest ≡ false) × (r : Recorder) × NextEffect true old r (Ok None)
-    × (new ≡ record r { phase = Idle })
+HasSaved old new = (old.phase ≡ Saving) × (old.has_rest ≡ false) × HasNoNext old
+    × (new ≡ record (saved old) { phase = Idle })
 
 -- | Cleaning; and any other but Idle while bytes are to be cut off | a cut where the data end | as it was |
 abbrev pub CutsOff : ℕ → Recorder → Recorder → Type 0
@@ -155,26 +153,27 @@ CutsOff at old new = (cuts_next old.phase old.has_rest ≡ true) × (new ≡ old
 
 -- a checkpoint is under way: one that was requested, or one that comes before a block
 abbrev pub IsSaving : Recorder → Type 0
-IsSaving r = (r.has_rest ≡ false) × ((r.phase ≡ Saving) ⊎ ((n : ℕ) × (r.phase ≡ Requested n) × SavesFirst true r))
+IsSaving r = (r.has_rest ≡ false)
+    × ((r.phase ≡ Saving) ⊎ ((n : ℕ) × (r.phase ≡ Requested n) × (IsClear r → ⊥)))
 
 -- | Saving; and Requested, unless Sound with no checkpoint begun | the next effect of the checkpoint | as it was |
 abbrev pub HasEffect : Effect → Recorder → Recorder → Type 0
-HasEffect effect old new = IsSaving old × (new ≡ old) × (r : Recorder) × NextEffect true old r (Ok (Some effect))
+HasEffect effect old new = IsSaving old × HasNext effect old × (new ≡ old)
 
--- a block is due: it was handed out before, no checkpoint comes first, or that one is done
-abbrev pub IsDue : ℕ → Recorder → Recorder → Type 0
-IsDue n old r = (old.has_rest ≡ false) × (((old.phase ≡ Writing n) × (r ≡ old))
-    ⊎ ((old.phase ≡ Requested n) × IsClear old × (r ≡ old))
-    ⊎ ((old.phase ≡ Requested n) × NextEffect true old r (Ok None)))
+-- a block is written, after which the data have n bytes: it was handed out before, or no checkpoint comes before it, or
+-- that one is done
+abbrev pub BeginsBlock : ℕ → Recorder → Recorder → Type 0
+BeginsBlock n old new = ((old.phase ≡ Writing n) × (new ≡ old))
+    ⊎ ((old.phase ≡ Requested n) × (IsClear old ⊎ HasNoNext old) × (new ≡ record (saved old) { phase = Writing n }))
 
 -- | Requested, once no checkpoint comes first; and Writing | the block, where the data end | Writing |
 abbrev pub HasBlock : ℕ → ℕ → Recorder → Recorder → Type 0
-HasBlock at len old new = (n : ℕ) × (r : Recorder) × IsDue n old r × HandsOut n r new (WriteBlock at len)
+HasBlock at len old new = (n : ℕ) × (old.has_rest ≡ false) × BeginsBlock n old new × (at ≡ end_place old)
+    × (len ≡ n - old.data_length)
 
 -- | Saving or Requested, of a recorder that no call made | `NotWritable` or `TooLong` | Idle |
 abbrev pub HasStopped : RecorderError → Recorder → Recorder → Type 0
-HasStopped error old new = IsSaving old × (r : Recorder) × NextEffect true old r (Err error)
-    × (new ≡ record r { phase = Idle })
+HasStopped error old new = IsSaving old × CannotSave old error × (new ≡ stopped old)
 
 -- the table of what there is to do
 abbrev pub GoesOn : Recorder → Recorder → Result (Option Action) RecorderError → Type 0
@@ -193,29 +192,27 @@ ThenGoesOn (Ok x) mid new result = (IsAlive mid × GoesOn mid new result)
     ⊎ ((mid.health ≡ Dead) × (result ≡ Err SyncFailed) × (new ≡ mid))
 ThenGoesOn (Err error) mid new result = (result ≡ Err error) × (new ≡ mid)
 
--- what the end of an effect makes of the recorder, by the next effect and the recorder after it
-abbrev pub EffectEnds : Bool → Recorder → Recorder → Result (Option Effect) RecorderError → Recorder
-    → Result (Unit {0}) RecorderError → Type 0
-EffectEnds ok old after (Err error) new result = (result ≡ Err error) × (new ≡ record after { phase = Idle })
-EffectEnds ok old after (Ok None) new result = (result ≡ Ok tt) × (new ≡ old)
-EffectEnds true old after (Ok (Some effect)) new result = (result ≡ Ok tt) × (new ≡ after)
-EffectEnds false old after (Ok (Some effect)) new result = (last : Recorder) × (error : RecorderError)
-    × NextEffect false after last (Err error) × (result ≡ Err error) × (new ≡ record last { phase = Idle })
+-- how the effect that was next has ended: it is done, or it has failed
+abbrev pub EffectEnds : Bool → Effect → Recorder → Recorder → Result (Unit {0}) RecorderError → Type 0
+EffectEnds true effect old new result = (new ≡ record old { number = old.number + 1 }) × (result ≡ Ok tt)
+EffectEnds false effect old new result = (new ≡ record (stopped old) { health = health_after effect })
+    × (result ≡ Err (error_for (health_after effect)))
 
--- how an effect of a checkpoint ended: that one was the next
+-- what a report of it makes of the recorder; where no effect was next it changes nothing, or the checkpoint stops
 abbrev pub EndsEffect : Bool → Recorder → Recorder → Result (Unit {0}) RecorderError → Type 0
-EndsEffect ok old new result = (after : Recorder) × (next : Result (Option Effect) RecorderError)
-    × NextEffect true old after next × EffectEnds ok old after next new result
+EndsEffect ok old new result = ((effect : Effect) × HasNext effect old × EffectEnds ok effect old new result)
+    ⊎ (HasNoNext old × (new ≡ old) × (result ≡ Ok tt))
+    ⊎ ((error : RecorderError) × CannotSave old error × (new ≡ stopped old) × (result ≡ Err error))
 
 -- Table: what a report makes of a recorder, by the phase (Phase, Report, the recorder then).
 -- | Idle | done or failed | as it was |
 abbrev pub HadNothing : Recorder → Recorder → Result (Unit {0}) RecorderError → Type 0
 HadNothing old new result = (old.phase ≡ Idle) × (new ≡ old) × (result ≡ Ok tt)
 
--- | Cleaning | done or failed | Idle; the call returns `NeedsCheckpoint` |
+-- | Cleaning | done or failed | Idle; the call returns `NeedsCheckpoint`, or `SyncFailed` once Dead |
 abbrev pub HasCleaned : Recorder → Recorder → Result (Unit {0}) RecorderError → Type 0
 HasCleaned old new result = (old.phase ≡ Cleaning) × (new ≡ record old { phase = Idle })
-    × (result ≡ Err NeedsCheckpoint)
+    × (result ≡ Err (error_for old.health))
 
 -- | any other, while bytes are to be cut off | done or failed | nothing is to be cut off |
 abbrev pub HasCut : Recorder → Recorder → Result (Unit {0}) RecorderError → Type 0
@@ -267,9 +264,10 @@ Advances report old new result = (mid : Recorder) × (outcome : Result (Unit {0}
     × Settles report old mid outcome × ThenGoesOn outcome mid new result
 
 -- Table: what a request makes of a recorder, by the phase (Phase, Request, the recorder then).
+-- what was under way is given up; a checkpoint that was begun continues with the next one
 -- | Writing | a block or a checkpoint | Suspect, and what the block left is to be cut off |
 -- | Cleaning | a block or a checkpoint | what the block left is to be cut off |
--- | any other | a block or a checkpoint | as it was: a checkpoint continues |
+-- | Requested | a block or a checkpoint | the block that was requested is dropped |
 abbrev pub given_up : Phase → Recorder → Recorder
 given_up (Writing n) r = record r { health = doubted r.health; phase = Idle; has_rest = true }
 given_up Cleaning r = record r { phase = Idle; has_rest = true }
@@ -278,28 +276,32 @@ given_up phase r = record r { phase = Idle }
 abbrev pub GivesUp : Recorder → Recorder → Type 0
 GivesUp old new = new ≡ given_up old.phase old
 
--- what was under way is reported, and given up
-abbrev pub Abandons : Report → Recorder → Recorder → Type 0
-Abandons report old new = (mid : Recorder) × (outcome : Result (Unit {0}) RecorderError)
-    × Settles report old mid outcome × GivesUp mid new
-
 -- then, where a checkpoint is requested
 -- | any | a checkpoint | Saving |
 abbrev pub AsksForCheckpoint : Report → Recorder → Recorder → Type 0
-AsksForCheckpoint report old new = (end : Recorder) × Abandons report old end × (new ≡ record end { phase = Saving })
+AsksForCheckpoint report old new = (mid end : Recorder) × (outcome : Result (Unit {0}) RecorderError)
+    × Settles report old mid outcome × GivesUp mid end × (new ≡ record end { phase = Saving })
 
--- then, where a block is requested, of whole frames that have room; after a failed sync no other error is returned
+-- why a block of so many samples is rejected: after a failed sync no other error is returned
+abbrev pub RejectsBlock : ℕ → Recorder → RecorderError → Type 0
+RejectsBlock samples r SyncFailed = r.health ≡ Dead
+RejectsBlock samples r UnfinishedFrame = IsAlive r × ((r.channels ≡ 0) ⊎ (samples % r.channels ≡ 0 → ⊥))
+RejectsBlock samples r error = IsAlive r × HasNoData r (length_with r samples) error
+
+-- | Saving | a block that is rejected | Saving, with the error: the checkpoint continues |
+-- | any other | a block that is rejected | Idle, with the error |
+abbrev pub once_rejected : Phase → Recorder → Recorder
+once_rejected Saving end = record end { phase = Saving }
+once_rejected phase end = end
+
+-- then, where a block is requested, of whole frames that have room
 -- | any | a block that has room | Requested |
--- | any | a block that has none, or isn't whole | Idle, with an error |
-abbrev pub TakesBlock : ℕ → Recorder → Recorder → Result (Unit {0}) RecorderError → Type 0
-TakesBlock samples end new (Ok x) = IsAlive end × (1 ≤ end.channels) × (samples % end.channels ≡ 0)
+abbrev pub TakesBlock : ℕ → Phase → Recorder → Recorder → Result (Unit {0}) RecorderError → Type 0
+TakesBlock samples phase end new (Ok x) = IsAlive end × (1 ≤ end.channels) × (samples % end.channels ≡ 0)
     × HasData end (length_with end samples) × (new ≡ record end { phase = Requested (length_with end samples) })
-TakesBlock samples end new (Err SyncFailed) = (new ≡ end) × (end.health ≡ Dead)
-TakesBlock samples end new (Err UnfinishedFrame) = (new ≡ end) × IsAlive end
-    × ((end.channels ≡ 0) ⊎ (samples % end.channels ≡ 0 → ⊥))
-TakesBlock samples end new (Err error) = (new ≡ end) × IsAlive end × HasNoData end (length_with end samples) error
+TakesBlock samples phase end new (Err error) = RejectsBlock samples end error × (new ≡ once_rejected phase end)
 
 -- what the call for a block does
 abbrev pub AsksForBlock : Report → ℕ → Recorder → Recorder → Result (Unit {0}) RecorderError → Type 0
-AsksForBlock report samples old new result =
-    (end : Recorder) × Abandons report old end × TakesBlock samples end new result
+AsksForBlock report samples old new result = (mid end : Recorder) × (outcome : Result (Unit {0}) RecorderError)
+    × Settles report old mid outcome × GivesUp mid end × TakesBlock samples mid.phase end new result

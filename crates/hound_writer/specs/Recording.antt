@@ -73,11 +73,10 @@ IsRecorderOf r w = (r.data_start ≡ w.data_start) × (r.data_length ≡ w.bytes
     × (r.bytes_per_sample ≡ w.spec_ex.bytes_per_sample)
 
 -- A file is in step with its recorder: calls of a writer led to it, of which these are known, a write or a checkpoint
--- each; and of a checkpoint under way the effects so far were performed, the last one Ok or not. If all was synced in
--- the file as it was handed in, what was written since the last sync is at ascending places, before that of the next
--- samples unless a write has failed.
-pub record InStep (s : WavSpecEx) (file : Begun) (known : List Known) (r : Recorder) (ok : Bool)
-    (m : MediumState) : Type 0 where
+-- each; and of a checkpoint under way the effects so far were performed. If all was synced in the file as it was handed
+-- in, what was written since the last sync is at ascending places, before that of the next samples unless a write has
+-- failed.
+pub record InStep (s : WavSpecEx) (file : Begun) (known : List Known) (r : Recorder) (m : MediumState) : Type 0 where
   pub writer : WriterState Log
   pub recorded : Recorded log_kind s file known writer
   pub idle : IsIdle writer
@@ -86,9 +85,7 @@ pub record InStep (s : WavSpecEx) (file : Begun) (known : List Known) (r : Recor
       × (r.health ≡ Sound → high ≤ r.data_start + r.data_length)
   pub log : Log
   pub state : log.state ≡ m
-  pub result : Result (Unit {0}) IoFault
-  pub last : 0 < r.number → is_ok result ≡ ok
-  pub performed : Performed (take r.number (effects_of r)) result writer.medium log
+  pub performed : Performed (take r.number (effects_of r)) (Ok tt) writer.medium log
 
 -- what is known of a write of a block, by whether it succeeded
 abbrev pub block_known : List ℕ → Bool → WavSpecEx → Known
@@ -107,7 +104,7 @@ HasPlace _ r = Unit
 -- What a caller has that did as its recorder said, and has reported it: the file is in step with the recorder, and all
 -- that is written are whole frames. So is the block that is requested, and it has room.
 pub record Directed (s : WavSpecEx) (file : Begun) (known : List Known) (r : Recorder) (m : MediumState) : Type 0 where
-  pub in_step : InStep s file known r true m
+  pub in_step : InStep s file known r m
   pub channels : r.channels ≡ s.spec.channels
   pub whole : (frames : ℕ) × (r.data_length ≡ frames * r.channels * r.bytes_per_sample)
   pub block : HasPlace r.phase r

@@ -50,10 +50,11 @@ pub fn a_block_is_its_samples<S: Sample, M: Medium>()
 
 /// A caller that does what a [`Recorder`](crate::Recorder) says makes calls of a writer, whatever fails. It begins a
 /// recorder of a file that it began by all effects of [`beginning_effect`](crate::beginning_effect) (`new`), or of one
-/// that was found (`resumed`), and asks for blocks and checkpoints (`asked`); a request that is rejected gives up what
-/// was under way. It performs the effects that [`next`](crate::Recorder::next) returns (`performed`), writes the block
-/// at its place (`handed`, `wrote`), cuts off what follows, or not (`cut`), and reports each result, until there is no
-/// more (`saved`). An error comes only of what it reports, or once a sync has failed (`failed`).
+/// that was found (`resumed`), and asks for blocks and checkpoints (`asked`), which gives up a block that was under
+/// way, also where the request is rejected. It performs the effects that [`next`](crate::Recorder::next) returns
+/// (`performed`), writes the block at its place (`handed`, `wrote`), cuts off what follows, or not (`cut`), and reports
+/// each result, until there is no more (`saved`). An error comes only of what it reports, or once a sync has failed
+/// (`failed`).
 ///
 /// Of a recording that was cut off, and is mended, the first checkpoint publishes the samples that the file holds as a
 /// `flush` of them does, up to an effect that fails (`mended`). Once it is done, the calls begin.
@@ -76,9 +77,9 @@ pub fn a_recorder_directs()
         × Directed f.spec_ex (resumed_file f.spec_ex samples f.data_start end.state) []
         (recorder_of f.spec_ex f.data_start r.data_length) m.state) }
     ensures asked { (s : WavSpecEx) (file : Begun) (known : List Known) (old end new : Recorder)
-        (m : MediumState) (samples : ℕ) → Directed s file known old m → GivesUp old end
-        → Directed s file known (record end { phase = Saving }) m
-        × (TakesBlock samples end new (Ok tt) → Directed s file known new m) × Directed s file known end m }
+        (m : MediumState) (samples : ℕ) (result : Result Unit RecorderError) → Directed s file known old m
+        → GivesUp old end → Directed s file known (record end { phase = Saving }) m
+        × (TakesBlock samples old.phase end new result → Directed s file known new m) }
     ensures performed { (s : WavSpecEx) (file : Begun) (known : List Known) (old mid new : Recorder)
         (m : MediumState) (end : Log) (effect : Effect) (result : Result Unit IoFault)
         (outcome : Result Unit RecorderError) → Directed s file known old m

@@ -1,9 +1,21 @@
 // What a recorder's caller asks for, and is to do.
-ghost use Rattle.std.specs.Prelude.{◌≡◌};
-ghost use Rattle.hound_writer.specs.Recorder.{after_block, doubted, Advances, AsksForBlock, AsksForCheckpoint, EndsEffect, GivesUp, GoesOn, HandsOut, Saves, SavesFirst, Settles, end_place};
+ghost use Rattle.std.specs.Prelude.{◌≡◌, ◌-◌, ◌%◌, ◌≤◌, ◌↔◌, IfErr, IfOk, IsTrue};
+ghost use Rattle.hound_writer.specs.declared.effects.Action.TheVariants.{WriteBlock};
+ghost use Rattle.hound_writer.specs.declared.recorder.Phase.TheVariants.{Writing};
+ghost use Rattle.hound_writer.specs.Recorder.{after_block, doubted, health_after, Advances, AsksForBlock, AsksForCheckpoint, EndsEffect, GivesUp, GoesOn, HasData, IsAlive, IsClear, IsSaving, RejectsBlock, Settles, end_place, length_with};
 
-use crate::effects::{Action, Report};
+use crate::effects::{Action, Effect, Report};
 use crate::recorder::{Health, Phase, Recorder, RecorderError};
+
+// The health of a recorder one of whose effects has failed.
+fn health_after(effect: Effect) -> Health
+    ensures { result ≡ health_after effect }
+{
+    match effect {
+        Effect::Sync => Health::Dead,
+        Effect::Pad(_) | Effect::Size(..) => Health::Suspect,
+    }
+}
 
 impl Recorder {
     // After a write that failed a checkpoint comes first, unless nothing comes any more.
@@ -30,20 +42,37 @@ impl Recorder {
         self.phase = Phase::Idle;
     }
 
-    /// Asks for a block of so many samples after the others, and before that for the checkpoint that is needed. What
-    /// was under way is reported, and given up.
-    pub fn write(&mut self, report: Report, samples: u64) -> Result<(), RecorderError>
-        ensures { AsksForBlock report samples self.old self.new result }
+    // The data length with a block of so many samples, if it is taken.
+    fn check_block(&self, samples: u64) -> Result<u32, RecorderError>
+        ensures taken { IfOk result (λ n. IsAlive self.now × (1 ≤ self.now.channels)
+            × (samples % self.now.channels ≡ 0) × (n ≡ length_with self.now samples) × HasData self.now n) }
+        ensures rejected { IfErr result (RejectsBlock samples self.now) }
     {
-        let _ = self.settle(report);
-        self.give_up();
         if self.health == Health::Dead {
             return Err(RecorderError::SyncFailed);
         }
         if self.channels == 0 || samples % self.channels as u64 != 0 {
             return Err(RecorderError::UnfinishedFrame);
         }
-        self.phase = Phase::Requested(self.length_with(samples)?);
+        self.length_with(samples)
+    }
+
+    /// Asks for a block of so many samples after the others, and before that for the checkpoint that is needed. What
+    /// was under way is reported, and a block is given up. A checkpoint continues: before a block that is taken only
+    /// where one is needed, and in any case where the block is rejected.
+    pub fn write(&mut self, report: Report, samples: u64) -> Result<(), RecorderError>
+        ensures { AsksForBlock report samples self.old self.new result }
+    {
+        let _ = self.settle(report);
+        let is_saving = self.phase == Phase::Saving;
+        self.give_up();
+        let taken = self.check_block(samples);
+        self.phase = match taken {
+            Ok(length) => Phase::Requested(length),
+            Err(_) if is_saving => Phase::Saving,
+            Err(_) => Phase::Idle,
+        };
+        taken?;
         Ok(())
     }
 
@@ -57,29 +86,26 @@ impl Recorder {
         self.phase = Phase::Saving;
     }
 
-    // Takes in how an effect of a checkpoint ended.
+    // Takes in how the effect of a checkpoint ended that was next.
     fn end_effect(&mut self, ok: bool) -> Result<(), RecorderError>
         ensures { EndsEffect ok self.old self.new result }
     {
-        let mut after = *self;
-        match after.next_effect(true) {
-            Ok(Some(_)) => {}
-            Ok(None) => return Ok(()),
+        match self.next_effect() {
+            Ok(None) => Ok(()),
+            Ok(Some(_)) if ok => {
+                self.number += 1;
+                Ok(())
+            }
+            Ok(Some(effect)) => {
+                self.stop();
+                self.health = health_after(effect);
+                Err(self.health.error())
+            }
             Err(error) => {
-                *self = after;
-                self.phase = Phase::Idle;
-                return Err(error);
+                self.stop();
+                Err(error)
             }
         }
-        if ok {
-            *self = after;
-            return Ok(());
-        }
-        let result = after.next_effect(false);
-        *self = after;
-        self.phase = Phase::Idle;
-        result?;
-        Ok(())
     }
 
     // Takes in how the write of a block ended, after which the data have so many bytes.
@@ -108,7 +134,7 @@ impl Recorder {
             Phase::Idle => Ok(()),
             Phase::Cleaning => {
                 self.phase = Phase::Idle;
-                Err(RecorderError::NeedsCheckpoint)
+                Err(self.health.error())
             }
             Phase::Saving | Phase::Requested(_) | Phase::Writing(_) if self.has_rest => {
                 self.has_rest = false;
@@ -129,38 +155,42 @@ impl Recorder {
         self.data_start.saturating_add(self.data_length as u64)
     }
 
-    // Whether a checkpoint comes before a block.
-    fn saves_first(&self) -> bool
-        ensures { SavesFirst result self.now }
+    // Whether no checkpoint comes before a block.
+    fn is_clear(&self) -> bool
+        ensures { IsTrue result ↔ IsClear self.now }
     {
-        self.health != Health::Sound || self.number > 0
+        self.health == Health::Sound && self.number == 0
     }
 
     // Hands a block out, after which the data have so many bytes.
     fn hand_out(&mut self, length: u32) -> Action
-        ensures { HandsOut length self.old self.new result }
+        ensures handed { self.new ≡ record self.old { phase = Writing length } }
+        ensures block { result ≡ WriteBlock (end_place self.old) (length - self.old.data_length) }
     {
         self.phase = Phase::Writing(length);
         Action::WriteBlock(self.end(), length.saturating_sub(self.data_length))
     }
 
-    // The next effect of a checkpoint. Once all are done, the recorder is as after it.
+    // The next effect of a checkpoint. Once all are done, the block is next that was requested, if one was.
     fn save(&mut self) -> Result<Option<Action>, RecorderError>
-        ensures { Saves self.old self.new result }
+        requires { IsSaving self.old }
+        ensures { GoesOn self.old self.new result }
     {
-        let mut after = *self;
-        match after.next_effect(true) {
-            Ok(Some(effect)) => Ok(Some(Action::Perform(effect))),
-            Ok(None) => {
-                *self = after;
-                Ok(None)
-            }
+        match self.next_effect() {
+            Ok(Some(effect)) => return Ok(Some(Action::Perform(effect))),
+            Ok(None) => {}
             Err(error) => {
-                *self = after;
-                self.phase = Phase::Idle;
-                Err(error)
+                self.stop();
+                return Err(error);
             }
         }
+        self.number = 0;
+        self.health = Health::Sound;
+        if let Phase::Requested(length) = self.phase {
+            return Ok(Some(self.hand_out(length)));
+        }
+        self.phase = Phase::Idle;
+        Ok(None)
     }
 
     // What there is to do; nothing if all is done.
@@ -173,23 +203,9 @@ impl Recorder {
             Phase::Saving | Phase::Requested(_) | Phase::Writing(_) if self.has_rest => {
                 Ok(Some(Action::Shorten(self.end())))
             }
-            Phase::Saving => {
-                let next = self.save()?;
-                if next.is_none() {
-                    self.phase = Phase::Idle;
-                }
-                Ok(next)
-            }
-            Phase::Requested(length) => {
-                if self.saves_first() {
-                    let next = self.save()?;
-                    if next.is_some() {
-                        return Ok(next);
-                    }
-                }
-                Ok(Some(self.hand_out(length)))
-            }
             Phase::Writing(length) => Ok(Some(self.hand_out(length))),
+            Phase::Requested(length) if self.is_clear() => Ok(Some(self.hand_out(length))),
+            Phase::Saving | Phase::Requested(_) => self.save(),
         }
     }
 

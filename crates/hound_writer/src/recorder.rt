@@ -1,7 +1,7 @@
 // A recorder, whose caller writes the file: what it keeps, and the parts of its calls.
 ghost use Rattle.std.specs.Prelude.{◌≡◌, ◌+◌, ◌≤◌, Err, IfErr, IfOk, IfSome, Ok};
 ghost use Rattle.hound_writer.specs.Effects.{nth};
-ghost use Rattle.hound_writer.specs.Recorder.{AppendsRecorder, BeginsRecorder, HasData, HasNoData, LeavesRoom, NextEffect, effects_of, length_with, recorder_of};
+ghost use Rattle.hound_writer.specs.Recorder.{AppendsRecorder, BeginsRecorder, CanSave, CannotSave, HasData, HasNoData, LeavesRoom, effects_of, error_for, length_with, recorder_of, stopped};
 
 use crate::effects::{Effect, checkpoint_effect};
 use hound_spec::{WavSpecEx, header_length, is_pair, riff_size_fits};
@@ -37,6 +37,18 @@ pub enum Health {
     Suspect,
     /// A sync has failed, so nobody knows what is stored. Each call is an error from then on.
     Dead,
+}
+
+impl Health {
+    // The error of a call that a failure has ended.
+    pub(crate) fn error(self) -> RecorderError
+        ensures { result ≡ error_for self }
+    {
+        match self {
+            Health::Dead => RecorderError::SyncFailed,
+            Health::Sound | Health::Suspect => RecorderError::NeedsCheckpoint,
+        }
+    }
 }
 
 /// What is under way.
@@ -184,34 +196,23 @@ impl Recorder {
         checkpoint_effect(self.data_start, self.data_length, number - 1)
     }
 
-    // The next effect of a checkpoint of all that is written, or none if it is done; `ok` is whether the last one
-    // succeeded, and is ignored at the first.
-    pub(crate) fn next_effect(&mut self, ok: bool) -> Result<Option<Effect>, RecorderError>
-        ensures { NextEffect ok self.old self.new result }
+    // The next effect of a checkpoint of all that is written, or none if all are done.
+    pub(crate) fn next_effect(&self) -> Result<Option<Effect>, RecorderError>
+        ensures next { IfOk result (λ next. CanSave self.now × (nth (effects_of self.now) self.now.number ≡ next)) }
+        ensures rejected { IfErr result (CannotSave self.now) }
     {
         if self.health == Health::Dead {
-            self.number = 0;
             return Err(RecorderError::SyncFailed);
         }
         self.check_length(self.data_length as u64)?;
-        if self.number > 0 && !ok {
-            let failed = self.effect(self.number - 1);
-            self.number = 0;
-            if let Some(Effect::Sync) = failed {
-                self.health = Health::Dead;
-                return Err(RecorderError::SyncFailed);
-            }
-            self.health = Health::Suspect;
-            return Err(RecorderError::NeedsCheckpoint);
-        }
-        let next = self.effect(self.number);
-        match next {
-            Some(_) => self.number += 1,
-            None => {
-                self.number = 0;
-                self.health = Health::Sound;
-            }
-        }
-        Ok(next)
+        Ok(self.effect(self.number))
+    }
+
+    // The checkpoint that is under way has ended in an error.
+    pub(crate) fn stop(&mut self)
+        ensures { self.new ≡ stopped self.old }
+    {
+        self.number = 0;
+        self.phase = Phase::Idle;
     }
 }

@@ -12,7 +12,7 @@ pub returns-clause-survives : goal.returns-clause-survives
 returns-clause-survives c = directed_survives
 
 pub returns-clause-ascends : goal.returns-clause-ascends
-returns-clause-ascends c s file known r m d synced = step_ascends s file known r true m d.in_step synced
+returns-clause-ascends c s file known r m d synced = step_ascends s file known r m d.in_step synced
 
 pub returns-clause-cut : goal.returns-clause-cut
 returns-clause-cut c = directed_cut

@@ -5,7 +5,7 @@ use Rattle.hound.proofs.Knowing.{head_inside}
 use Rattle.hound.specs.{FoundFile, IsSoundSpec, Readable, WavSpecEx, resumed_file}
 use Rattle.hound.specs.declared.RepairState.TheVariants.{HasChunksAfterData}
 use Rattle.hound_callers.proofs.Performing.{log_of, saves}
-use Rattle.hound_callers.proofs.Resuming.{kept_all, not_resumed, too_long}
+use Rattle.hound_callers.proofs.Resuming.{kept_all, kept_as_found, not_resumed, resumed_full, too_long}
 use Rattle.hound_callers.proofs.recorder.append_by_effects.Goals as goal
 
 -- what is known of the file whose samples a reader has left: it is read, from where its data begin
@@ -91,4 +91,25 @@ returns-clause-saved g c tells keeps =
           none
           (c.requires.synced tells keeps))
           (c.save_blocks.ensures.saved tells keeps s (resumed_file s samples start old) (log.state, begun, once)),
+    )
+
+pub returns-clause-cause : goal.returns-clause-cause
+returns-clause-cause g c kept tells fine =
+    let s = c.spec_ex-spec_ex.result in
+    let samples = c.len-samples.result in
+    let bytes = c.args.contents.now in
+    let (h, readable, rest) = c.in_ok-reader.ensures.found in
+    let start = length bytes - length c.into_inner.result.now in
+    let here = read_here bytes c.into_inner.result.now _ s _ samples h c.spec_ex-spec_ex.ensures
+    c.len-samples.ensures readable (ap (λ (x : Bor (List ℕ)). x.now) c.into_inner.ensures ∙ rest) in
+    let f = found_as s start c.in-Some.data_length (length bytes) samples in
+    let counted : f.data_length ≡ samples * s.bytes_per_sample = grind (arith, common_steps) in
+    let is = kept_as_found f c.in-Ok.resumed refl c.in-Ok.ensures.resumes in
+    let same = (c.in_ok-go.ensures tells).faults in (
+      s,
+      samples,
+      start,
+      here,
+      resumed_full f c.in-Ok.resumed (samples * s.bytes_per_sample) c.args.blocks.now c.save_blocks.result is counted
+          (c.save_blocks.ensures.cause kept tells (omega (arith, fine.0, same), fine.1 ∙ sym same)),
     )

@@ -1,11 +1,50 @@
 use Rattle.std.proofs.lemmas.Grind.{common_steps}
-use Rattle.std.proofs.Common.{None, Ok, Some, ap, arith, inl, length, refl, subst, sym}
+use Rattle.std.proofs.Common.{◌∙◌, None, Ok, Some, ap, arith, inl, length, refl, subst, sym}
 use Rattle.std.specs.Prelude.{⊤}
 use Rattle.hound.specs.{Advances, Recorder, Repeats, actions_left}
-use Rattle.hound_callers.proofs.Driving.{DoesAction, IsWithin, KnownAt, at_rest, begins, laws_of, next_err, next_none, next_some, no_laws, not_failed, not_at_rest, one_at_most, settled_low, step_of}
+use Rattle.hound_callers.proofs.Driving.{
+  DoesAction,
+  IsWithin,
+  KnownAt,
+  at_rest,
+  begins,
+  laws_of,
+  next_err,
+  next_none,
+  next_some,
+  no_laws,
+  not_failed,
+  not_at_rest,
+  one_at_most,
+  settled_low,
+  step_of,
+}
+use Rattle.hound_callers.proofs.Faultless.{
+  FaultlessAt,
+  fails_as,
+  faultless_laws,
+  faultless_not_failed,
+  faults_add,
+  is_error,
+  is_performable,
+  kept_next,
+  no_fault_after,
+  no_fault_before,
+  within_data,
+}
 use Rattle.hound_callers.proofs.Mending.{PerformedAt, begins_effects, effect_laws, effects_not_failed}
 use Rattle.hound_callers.proofs.Performing.{not_ok}
-use Rattle.hound_callers.proofs.Repeating.{Again, all_done, begins_directed, come_again, comes, has_action, has_failed, is_tried, smaller}
+use Rattle.hound_callers.proofs.Repeating.{
+  Again,
+  all_done,
+  begins_directed,
+  come_again,
+  comes,
+  has_action,
+  has_failed,
+  is_tried,
+  smaller,
+}
 use Rattle.hound_callers.proofs.recorder.perform_all.Goals as goal
 
 pub loop-action-init : goal.loop-action-init
@@ -20,6 +59,8 @@ loop-action-init g c =
           c.args.block.now once (M.state c.args.medium.now) within d repeats;
       performed = λ tells keeps start repeats one has. begins_effects c.args.recorder.now start c.args.block.now
           (M.state c.args.medium.now) one c.requires.asked.0 has within repeats;
+      faults = λ tells least. (omega arith, least);
+      faultless = λ has kept tells fine. ((λ never. cc never), (None, within, has));
     }
 
 pub loop-action-preserved : goal.loop-action-preserved
@@ -80,6 +121,29 @@ loop-action-preserved g c =
           come_again (λ m over r. PerformedAt asked start m over r) asked c.args.block.now
           c.perform-report.result c.next.new.self c.in-Some.action o end.state once _ (w c.perform-report.result) k goes
           came;
+      faults = λ tells. let M = g.M.Placed in
+          faults_add (M.state c.args.medium.now) (M.state c.loop-action.medium) (M.state c.perform-report.new.medium)
+          (c.loop-action.invariant.faults tells) (c.perform-report.ensures.faults tells);
+      faultless = λ has kept tells fine.
+          let M = g.M.Placed in
+          let before = c.loop-action.invariant.faults tells in
+          let now = c.perform-report.ensures.faults tells in
+          let (not_failed, (was, here, known)) =
+          c.loop-action.invariant.faultless has kept tells (no_fault_before (M.state c.args.medium.now) (M.state
+          c.loop-action.medium)
+          (M.state c.perform-report.new.medium) before now fine) in
+          let (o, w, k, goes) = next_some asked (length c.args.block.now) c.requires.asked c.loop-action.report
+          FaultlessAt FaultlessAt (λ _. ⊤)
+          (faultless_laws asked (length c.args.block.now) c.loop-action.report c.requires.asked not_failed)
+          c.loop-action.recorder c.next.new.self was c.in-Some.action here known c.loop-action.invariant.action next in
+          let done = c.perform-report.ensures.cause (kept_next c.args.lost.now c.loop-action.made
+          (ap (λ b. b) c.is_next_lost.ensures.listed) kept)
+          (is_performable asked c.next.new.self (length c.args.block.now) c.perform-report.result o c.in-Some.action
+          c.requires.asked (w c.perform-report.result) k goes) tells (no_fault_after (M.state c.args.medium.now)
+          (M.state c.loop-action.medium) (M.state c.perform-report.new.medium) before now fine) in (
+            (λ failed. let both = sym done ∙ failed in cc both),
+            (o, w c.perform-report.result, k),
+          );
     }
 
 pub loop-action-smaller : goal.loop-action-smaller
@@ -223,3 +287,28 @@ returns-in_err-action-clause-performed g c tells keeps start repeats one has_dat
           ))
           way c.in_err-action.ensures),
     )
+
+pub returns-clause-faults : goal.returns-clause-faults
+returns-clause-faults g c tells = c.loop-action.invariant.faults tells
+
+pub returns-in_err-action-clause-faults : goal.returns-in_err-action-clause-faults
+returns-in_err-action-clause-faults g c tells = c.loop-action.invariant.faults tells
+
+pub returns-in_err-action-clause-cause : goal.returns-in_err-action-clause-cause
+returns-in_err-action-clause-cause g c has kept tells fine =
+    let asked = c.args.recorder.now in
+    let (not_failed, (was, here, known)) = c.loop-action.invariant.faultless has kept tells fine in
+    let (none, never) = next_err asked (length c.args.block.now) c.requires.asked c.loop-action.report
+    FaultlessAt FaultlessAt (λ _. ⊤)
+    (faultless_laws asked (length c.args.block.now) c.loop-action.report c.requires.asked not_failed)
+    c.loop-action.recorder c.next.new.self was c.in_err-action.field-0.0
+    (faultless_not_failed c.next.new.self c.in_err-action.field-0.0) here known c.loop-action.invariant.action
+    c.in_err-action.ensures in absurd never
+
+pub returns-in_err-action-clause-error : goal.returns-in_err-action-clause-error
+returns-in_err-action-clause-error g c has =
+    let (over, within) = c.loop-action.invariant.within in
+    rw (is_error _ _ c.from_residual.ensures.1) (fails_as c.loop-action.report c.loop-action.recorder c.next.new.self
+    c.in_err-action.field-0.0 (within_data c.args.recorder.now c.loop-action.recorder c.loop-action.report over within
+    has)
+    c.in_err-action.ensures)

@@ -1,8 +1,10 @@
 use Rattle.std.proofs.Common.{◌≡◌, ◌≤◌, ◌+◌, ◌*◌, ◌-◌, List, Option, Bool, length}
 use Rattle.std.specs.Prelude.{⊤}
-use Rattle.hound.specs.{Begun, HasData, Known, Log, Repeats, WavSpecEx, WhereKeeps, actions_left}
+use Rattle.hound.specs.{Begun, HasData, Known, Log, Repeats, WavSpecEx, WhereKeeps, WhereTells, actions_left}
 use Rattle.hound.specs.declared.Phase.TheVariants.{Saving}
-use Rattle.hound_callers.specs.Recorder.{IsDirected}
+use Rattle.hound.specs.declared.Report.TheVariants.{Failed}
+use Rattle.hound_callers.specs.Recorder.{CountsFaults, IsDirected, UnlessFault}
+use Rattle.hound_callers.proofs.Faultless.{FaultlessAt}
 use Rattle.hound_callers.proofs.Driving.{HasAction, IsWithin, step_of}
 use Rattle.hound_callers.proofs.Repeating.{IsUnderWay, IsUnderWayBy}
 use Rattle.hound_callers.proofs.Mending.{PerformedAt}
@@ -23,6 +25,11 @@ invariant-loop-action g l =
           → IsUnderWayBy (λ m over r. PerformedAt l.fn.recorder start m over r) l.fn.recorder l.block l.report
           l.recorder
           (M.state l.medium));
+      faults : WhereTells M.tells (CountsFaults (M.state l.fn.medium) (M.state l.medium));
+      faultless : HasData l.fn.recorder l.fn.recorder.data_length
+          → UnlessFault M.tells l.lost (M.state l.fn.medium) (M.state l.medium)
+          ((l.report ≡ Failed → ⊥) × ((over : Option Bool) × IsWithin l.fn.recorder l.report l.recorder over
+          × FaultlessAt over l.recorder));
     }
 
 abbrev pub decreases-loop-action : goal.decreases-loop-action

@@ -3,6 +3,7 @@ use Rattle.std.proofs.lemmas.List.{map-append}
 use Rattle.hound.proofs.Knowing.{at_ok}
 use Rattle.hound_callers.specs.Recorder.{IsDirected, samples_of}
 use Rattle.hound_callers.proofs.Performing.{at_err, none_left, none_saved}
+use Rattle.hound_callers.proofs.Faultless.{faults_add, grown_more, no_fault_after, takes_no_more, takes_none}
 use Rattle.hound_callers.proofs.Publishing.{seen_more}
 use Rattle.hound_callers.proofs.recorder.save_blocks.Goals as goal
 
@@ -18,6 +19,11 @@ loop-i-preserved g c =
           (sym (seen_more (samples_of s) c.args.blocks.now c.loop-i.i _ c.loop-i-test.true))
           (at_ok c.save_block.result ok c.save_block.ensures.saved tells keeps s file _
           (c.loop-i.invariant.directed tells keeps s file d));
+      grown = grown_more c.args.recorder.now c.loop-i.recorder c.save_block.new.recorder c.args.blocks.now c.loop-i.i _
+          c.loop-i-test.true c.loop-i.invariant.grown (at_ok c.save_block.result ok c.save_block.ensures.longer);
+      faults = λ tells. let M = g.M.Placed in
+          faults_add (M.state c.args.medium.now) (M.state c.loop-i.medium) (M.state c.save_block.new.medium)
+          (c.loop-i.invariant.faults tells) (c.save_block.ensures.faults tells);
     }
 
 pub returns-then-is_err-clause-saved : goal.returns-then-is_err-clause-saved
@@ -39,3 +45,21 @@ returns-clause-saved g c tells keeps s file d =
       c.loop-i.invariant.ready.0,
       rw append-nil (rw all at (c.loop-i.invariant.directed tells keeps s file d)),
     )
+
+pub returns-then-is_err-clause-faults : goal.returns-then-is_err-clause-faults
+returns-then-is_err-clause-faults g c tells =
+    let M = g.M.Placed in
+    faults_add (M.state c.args.medium.now) (M.state c.loop-i.medium) (M.state c.save_block.new.medium)
+    (c.loop-i.invariant.faults tells) (c.save_block.ensures.faults tells)
+
+pub returns-then-is_err-clause-cause : goal.returns-then-is_err-clause-cause
+returns-then-is_err-clause-cause g c kept tells fine =
+    let M = g.M.Placed in
+    let after = no_fault_after (M.state c.args.medium.now) (M.state c.loop-i.medium) (M.state c.save_block.new.medium)
+    (c.loop-i.invariant.faults tells) (c.save_block.ensures.faults tells) fine in
+    takes_no_more c.args.recorder.now c.loop-i.recorder c.args.blocks.now c.loop-i.i _ c.loop-i-test.true
+    c.loop-i.invariant.grown (c.save_block.ensures.cause kept tells after c.if-is_err.ensures.negation)
+
+pub returns-clause-cause : goal.returns-clause-cause
+returns-clause-cause g c kept tells fine =
+    takes_none c.args.recorder.now c.args.blocks.now (length c.args.blocks.now) (omega arith)
