@@ -105,6 +105,11 @@ impl<W> Output<W> {
 }
 
 impl<W: Seek> Output<W> {
+    fn has_gone_to(&mut self, place: u64) {
+        self.has_gone_back |= place < self.place;
+        self.place = place;
+    }
+
     // Looks once whether the writer is where it has written to. One that doesn't say where it is is believed.
     fn check_place(&mut self) -> io::Result<()> {
         if self.has_gone_back && self.writes_there.is_none() {
@@ -122,13 +127,14 @@ impl<W: Seek> Output<W> {
 impl<W: Seek> Placed for Output<W> {
     fn go(&mut self, to: u64) -> io::Result<()> {
         self.call(|inner| inner.seek(SeekFrom::Start(to)).map(drop))?;
-        self.has_gone_back = self.has_gone_back || to < self.place;
-        self.place = to;
+        self.has_gone_to(to);
         Ok(())
     }
 
     fn shift(&mut self, by: i64) -> io::Result<()> {
-        self.go(crate::rattle::checked_add_signed(self.place, by).ok_or(ErrorKind::InvalidInput)?)
+        let to = self.call(|inner| inner.seek(SeekFrom::Current(by)))?;
+        self.has_gone_to(to);
+        Ok(())
     }
 }
 

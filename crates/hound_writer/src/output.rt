@@ -17,7 +17,7 @@ pub(crate) struct Output<W: Medium> {
     // The properties of the audio data, and the bytes of a container.
     spec_ex: WavSpecEx,
     // The medium that the file goes to.
-    writer: W,
+    pub(crate) writer: W,
     // The place of the first data byte.
     data_start: u64,
     // How many bytes of the accepted samples are written.
