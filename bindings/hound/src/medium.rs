@@ -77,7 +77,11 @@ impl<W> Output<W> {
         Output { disk, writes_there: Some(true), ..Output::new(inner) }
     }
 
+    // No call is made after one that panicked, until that goes on.
     fn call<A>(&mut self, call: impl FnOnce(&mut W) -> io::Result<A>) -> io::Result<A> {
+        if self.panic.is_some() {
+            return Err(ErrorKind::Other.into());
+        }
         let inner = &mut self.inner;
         panic::catch_unwind(AssertUnwindSafe(|| call(inner))).unwrap_or_else(|payload| {
             self.panic = Some(Mutex::new(payload));
