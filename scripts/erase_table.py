@@ -1,17 +1,18 @@
 """What erase.py changes beside deleting ghost text, and check_erased.py allows: in which file, which tokens, by which,
 how often they are there, and why. `(…)`, `[…]` and `{…}` are brackets with anything in them, and another `…` is
-anything without braces and semicolons. An `in_rt` entry could go if the .rt file were written otherwise, and proved.
+anything without braces and semicolons.
 """
 from typing import NamedTuple
 
 CRATES = ["number", "spec", "sample", "medium", "durable", "walk", "reader", "writer", "repair"]
 
-# Files that bindings/hound doesn't use: laws, which are ghosts, media in memory, and files, which it opens itself.
+# Files that bindings/hound doesn't use: laws, which are ghosts, media in memory, allocators, and files, which it opens
+# itself.
 LEFT_OUT = [
     "number/laws.rt", "sample/laws.rt", "durable/laws.rt", "walk/laws.rt", "reader/laws.rt", "writer/laws.rt",
     "repair/laws.rt", "medium/bytes.rt", "medium/cursor.rt", "medium/file.rt", "medium/journal.rt", "medium/tape.rt",
-    "sample/amplitude.rt", "durable/file.rt", "writer/file.rt", "writer/batch.rt", "writer/machine.rt",
-    "repair/file.rt", "repair/bytes.rt",
+    "spec/allocation.rt", "sample/amplitude.rt", "durable/file.rt", "reader/file.rt", "writer/file.rt",
+    "writer/batch.rt", "writer/machine.rt", "repair/file.rt", "repair/bytes.rt",
 ]
 
 
@@ -21,7 +22,6 @@ class Allowed(NamedTuple):
     old: str
     new: str
     why: str
-    in_rt: bool = False
 
 
 REPLACEMENTS = [
@@ -52,15 +52,8 @@ REPLACEMENTS = [
     Allowed("spec/error.rt", 1, ", DeriveError)]", ")]", "bindings/hound has the texts."),
     Allowed("spec/error.rt", 1, "use thiserror::Error as DeriveError;", "", "bindings/hound has the texts."),
     Allowed("spec/error.rt", 8, "#[error(…)]", "", "bindings/hound has the texts."),
-    Allowed("spec/error.rt", 1, "use std::alloc::{AllocError, AllocFailed};", "", "Nothing here takes an allocator."),
-    Allowed("spec/error.rt", 1, "impl From<AllocError> for Error {…}", "", "Nothing here takes an allocator."),
-    Allowed("spec/error.rt", 1, "impl<T: Drop> From<AllocFailed<T>> for Error {…}", "",
-            "Nothing here takes an allocator."),
     Allowed("spec/header.rt", 1, "impl WavSpec {…}", "", "It takes an allocator: bindings/hound has its own."),
-    Allowed("*", 2, "use std::alloc::Global;", "", "Nothing here takes an allocator."),
-    Allowed("reader/reader.rt", 1, "impl WavReader<io::BufReader<fs::File>> {…}", "", "bindings/hound opens files."),
-    Allowed("reader/reader.rt", 1, "use std::path::Path; use std::rt::Files; use std::{fs, io, result};",
-            "use std::{io, result};", "bindings/hound opens files."),
+    Allowed("spec/header.rt", 1, "use std::alloc::Global;", "", "Nothing here takes an allocator."),
     Allowed("writer/resuming.rt", 1, "fmt<W: fmt::Write>(&self, f: &mut fmt::Formatter<W>)",
             "fmt(&self, f: &mut fmt::Formatter<'_>)", "A formatter of Rust has no type of where it writes."),
     # A value that is dropped is lent in Rust, and an io::Error isn't copied: one is moved out of where it was saved.
@@ -80,62 +73,20 @@ REPLACEMENTS = [
     Allowed("reader/blocks.rt", 1, "result_of(answer, &self.reader.fault)", "result_of(answer, &mut self.reader.fault)",
             "An io::Error isn't copied."),
     Allowed("reader/blocks.rt", 1, "&early_end()", "&mut early_end()", "An io::Error isn't copied."),
-    # What bindings/hound, which is in the same crate, calls.
-    Allowed("writer/output.rt", 1,
-            "spec_ex: WavSpecEx, writer: W, data_start: u64, data_bytes_written: u32, may_have_moved",
-            """spec_ex: WavSpecEx,
-    // The medium that the file goes to.
-    pub(crate) writer: W,
-    // The place of the first data byte.
-    data_start: u64,
-    // How many bytes of the accepted samples are written.
-    data_bytes_written: u32,
-    // Whether the medium may be elsewhere than after these.
-    may_have_moved""", "A panic of the medium goes on after the call.", in_rt=True),
-    Allowed("writer/lib.rt", 1, "mod append;", "pub(crate) mod append;", "bindings/hound calls it.", in_rt=True),
-    Allowed("sample/lib.rt", 1, "mod scale;", "pub(crate) mod scale;", "bindings/hound calls it.", in_rt=True),
-    Allowed("repair/lib.rt", 1, "mod mend;", "pub(crate) mod mend;", "bindings/hound calls it.", in_rt=True),
-    Allowed("repair/mend.rt", 1, "fn perform_all", "pub(crate) fn perform_all", "bindings/hound calls it.", in_rt=True),
+    # What hound hasn't, and what newer versions of Rust than 1.63 have.
     Allowed("spec/spec.rt", 1, "pub fn is_writable", "pub(crate) fn is_writable", "hound has no such method."),
-    # What newer versions of Rust than 1.63 have.
     Allowed("sample/scale.rt", 1, "number.round_ties_even()", "crate::rattle::round_ties_even(number)",
             "f64::round_ties_even is of Rust 1.77."),
-    Allowed("spec/spec.rt", 1, "spec.bits_per_sample.div_ceil(8)", "crate::rattle::div_ceil(spec.bits_per_sample, 8)",
-            "u16::div_ceil is of Rust 1.73.", in_rt=True),
-    Allowed("durable/durable.rt", 1, "self.place.checked_add_signed(by)",
-            "crate::rattle::checked_add_signed(self.place, by)", "u64::checked_add_signed is of Rust 1.66.",
-            in_rt=True),
-    Allowed("number/lib.rt", 1, "high.cast_signed() as i32", "high as i8 as i32", "u8::cast_signed is of Rust 1.87.",
-            in_rt=True),
-    Allowed("sample/integer.rt", 1, "let Ok(narrow) = i8::try_from(x) else { return Err(Error::TooWide); };",
-            "let narrow = match i8::try_from(x) { Ok(narrow) => narrow, Err(_) => return Err(Error::TooWide) };",
-            "let .. else is of Rust 1.65.", in_rt=True),
-    Allowed("sample/integer.rt", 1, "let Ok(narrow) = i16::try_from(x) else { return Err(Error::TooWide); };",
-            "let narrow = match i16::try_from(x) { Ok(narrow) => narrow, Err(_) => return Err(Error::TooWide) };",
-            "let .. else is of Rust 1.65.", in_rt=True),
-    Allowed("writer/write.rt", 1,
-            "let Err(no_sample) = self.output.accept_sample(sample, &mut self.fault) else { return Ok(()); };",
-            "let no_sample = match self.output.accept_sample(sample, &mut self.fault) { Ok(()) => return Ok(()),"
-            " Err(no_sample) => no_sample };", "let .. else is of Rust 1.65.", in_rt=True),
-    Allowed("writer/write.rt", 1,
-            "let Err(no_sample) = self.output.accept_samples(samples, &mut self.fault) else { return Ok(()); };",
-            "let no_sample = match self.output.accept_samples(samples, &mut self.fault) { Ok(()) => return Ok(()),"
-            " Err(no_sample) => no_sample };", "let .. else is of Rust 1.65.", in_rt=True),
-    # What is slower with the checks of indices that Rust makes, and the kit's compiler doesn't.
-    Allowed("reader/item.rt", 1, "#[inline] pub(crate) fn read_or_save_error",
-            "#[inline(always)] pub(crate) fn read_or_save_error", "It is a part of the loop over samples.", in_rt=True),
-    Allowed("writer/block.rt", 1, "let [a, b, c, d] = container; let at = self.length; self.bytes[at] = a;"
-            " self.bytes[at + 1] = b; self.bytes[at + 2] = c; self.bytes[at + 3] = d;",
-            "let at = self.length; self.bytes[at..at + 4].copy_from_slice(&container);", "One check instead of four.",
-            in_rt=True),
+    # Loops that LLVM makes no vectors of where Rust checks their indices, which the kit's compiler doesn't. In Rattle
+    # they count, because the contracts also hold of containers without bytes, of which an iterator over chunks would
+    # give none.
     Allowed("sample/slices.rt", 1, "let mut end = 0; for sample in samples {",
             "for (bytes, sample) in bytes.chunks_exact_mut((width as usize).max(1)).zip(samples) {",
-            "No check, so that LLVM makes vectors of it.", in_rt=True),
+            "It has no check, so that LLVM makes vectors of it."),
     Allowed("sample/slices.rt", 1, "store_container(bytes, end, container, width as usize); end += width as usize;",
-            "store_container(bytes, 0, container, width as usize);", "The rest of that.", in_rt=True),
+            "store_container(bytes, 0, container, width as usize);", "The rest of that."),
     Allowed("sample/decode.rt", 1, "for i in 0..samples.len() {"
             " samples[i] = S::decode(&from[i * size..(i + 1) * size], fmt, width, bits);",
             "for (sample, container) in samples.iter_mut().zip(from.chunks_exact(size.max(1))) {"
-            " *sample = S::decode(container, fmt, width, bits);", "No check, so that LLVM makes vectors of it.",
-            in_rt=True),
+            " *sample = S::decode(container, fmt, width, bits);", "It has no check, so that LLVM makes vectors of it."),
 ]

@@ -77,7 +77,11 @@ impl<W> Output<W> {
         Output { disk, writes_there: Some(true), ..Output::new(inner) }
     }
 
+    // No call is made after one that panicked, until that goes on.
     fn call<A>(&mut self, call: impl FnOnce(&mut W) -> io::Result<A>) -> io::Result<A> {
+        if self.panic.is_some() {
+            return Err(ErrorKind::Other.into());
+        }
         let inner = &mut self.inner;
         panic::catch_unwind(AssertUnwindSafe(|| call(inner))).unwrap_or_else(|payload| {
             self.panic = Some(Mutex::new(payload));
@@ -105,6 +109,11 @@ impl<W> Output<W> {
 }
 
 impl<W: Seek> Output<W> {
+    fn has_gone_to(&mut self, place: u64) {
+        self.has_gone_back |= place < self.place;
+        self.place = place;
+    }
+
     // Looks once whether the writer is where it has written to. One that doesn't say where it is is believed.
     fn check_place(&mut self) -> io::Result<()> {
         if self.has_gone_back && self.writes_there.is_none() {
@@ -122,13 +131,14 @@ impl<W: Seek> Output<W> {
 impl<W: Seek> Placed for Output<W> {
     fn go(&mut self, to: u64) -> io::Result<()> {
         self.call(|inner| inner.seek(SeekFrom::Start(to)).map(drop))?;
-        self.has_gone_back = self.has_gone_back || to < self.place;
-        self.place = to;
+        self.has_gone_to(to);
         Ok(())
     }
 
     fn shift(&mut self, by: i64) -> io::Result<()> {
-        self.go(crate::rattle::checked_add_signed(self.place, by).ok_or(ErrorKind::InvalidInput)?)
+        let to = self.call(|inner| inner.seek(SeekFrom::Current(by)))?;
+        self.has_gone_to(to);
+        Ok(())
     }
 }
 

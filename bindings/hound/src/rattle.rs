@@ -3,20 +3,6 @@
 /// A type that contracts alone look at.
 pub struct Brand;
 
-/// `u64::checked_add_signed`, of Rust 1.66.
-pub fn checked_add_signed(number: u64, by: i64) -> Option<u64> {
-    if by < 0 {
-        number.checked_sub(by.unsigned_abs())
-    } else {
-        number.checked_add(by as u64)
-    }
-}
-
-/// `u16::div_ceil`, of Rust 1.73.
-pub fn div_ceil(number: u16, by: u16) -> u16 {
-    number / by + u16::from(number % by > 0)
-}
-
 /// `f64::round_ties_even`, of Rust 1.77.
 pub fn round_ties_even(number: f64) -> f64 {
     let exact = 4503599627370496.0; // 2^52, from which on each float is an integer.

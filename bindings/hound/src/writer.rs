@@ -119,9 +119,19 @@ impl<W: Write + Seek> WavWriter<W> {
     }
 
     fn publish(&mut self, continues: bool) -> Result<()> {
-        let result = self.proved.output.publish_all(continues);
+        let result = self.publish_what_fits(continues);
         self.proved.output.writer.resume();
         Ok(result?)
+    }
+
+    // Where the medium has no room for the buffered samples, those that are written are published without them.
+    fn publish_what_fits(&mut self, continues: bool) -> spec::Result<()> {
+        let output = &mut self.proved.output;
+        let result = output.publish_all(continues);
+        if let Err(spec::Error::IoError(_)) = result {
+            let _ = output.publish_written();
+        }
+        result
     }
 
     /// What the file says of its samples.
@@ -144,7 +154,7 @@ impl<W: Write + Seek> Drop for WavWriter<W> {
     fn drop(&mut self) {
         if !self.finalized {
             // A panic of the writer isn't seen either: while another one unwinds, it would end the program.
-            let _ = self.proved.output.publish_all(false);
+            let _ = self.publish_what_fits(false);
         }
     }
 }

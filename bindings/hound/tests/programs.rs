@@ -23,8 +23,8 @@ fn files_are_short(test: &str) -> bool {
 }
 
 #[test]
-fn a_full_disk_leaves_what_was_flushed_and_all_that_it_holds_to_a_repair() {
-    if !files_are_short("a_full_disk_leaves_what_was_flushed_and_all_that_it_holds_to_a_repair") {
+fn a_full_disk_leaves_the_blocks_that_fit_and_all_that_it_holds_to_a_repair() {
+    if !files_are_short("a_full_disk_leaves_the_blocks_that_fit_and_all_that_it_holds_to_a_repair") {
         return;
     }
     let path = Path::new("full");
@@ -44,7 +44,8 @@ fn a_full_disk_leaves_what_was_flushed_and_all_that_it_holds_to_a_repair() {
         assert!(writer.flush().is_err() && writer.finalize().is_err());
         let held = (room - 44) / 2;
         assert!(held <= 8 + 4 * more + 4);
-        assert_eq!(WavReader::open(&path).unwrap().len(), 8);
+        let counted = WavReader::open(&path).unwrap().len() as usize;
+        assert!(counted <= held && counted + 2048 > held);
         assert_eq!(hound::repair_file(&path).unwrap().frames as usize, held);
         assert!(fs::read(&path).unwrap() == written(MONO, &numbers(held)));
     }

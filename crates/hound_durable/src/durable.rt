@@ -1,5 +1,5 @@
 // A medium around another that flushes it before it goes back.
-ghost use Rattle.std.specs.Prelude.{◌≡◌, ◌+◌, ◌^◌, ◌<◌, ◌≤◌, ◌+ℤ◌, pos, [], length, IfOk, OnOk, MatchResult};
+ghost use Rattle.std.specs.Prelude.{◌≡◌, ◌+◌, ◌^◌, ◌<◌, ◌≤◌, ◌+ℤ◌, pos, [], length, IfOk, OnOk, MatchResult, SomeIff, unsigned_abs};
 ghost use Rattle.std.specs.Int.{FitsUnsigned, w64};
 ghost use Rattle.std.specs.Io.{ReadsAtMost};
 ghost use Rattle.std.specs.Io.KnownBytes.{ReadConsumes};
@@ -92,6 +92,17 @@ impl<M: Medium> Durable<M> {
     }
 }
 
+// The place so many bytes after another one, or before it if negative, if there is one.
+fn place_from(place: u64, by: i64) -> Option<u64>
+    ensures { SomeIff result (FitsUnsigned w64 (pos place +ℤ by)) (unsigned_abs (pos place +ℤ by)) }
+{
+    if by < 0 {
+        place.checked_sub(by.unsigned_abs())
+    } else {
+        place.checked_add(by as u64)
+    }
+}
+
 impl<M: Medium> Placed for Durable<M> {
     ghost use Rattle.hound_durable.specs.Durables.{within, synced};
 
@@ -134,7 +145,7 @@ impl<M: Medium> Placed for Durable<M> {
         ensures fault { WhereTells M.tells (FitsUnsigned w64 (pos (within self.old).place +ℤ by)
             → IsItsFault result (within self.old) (within self.new)) }
     {
-        let to = self.place.checked_add_signed(by);
+        let to = place_from(self.place, by);
         let to = count_fault(to.ok_or(ErrorKind::InvalidInput), &mut self.faults)?;
         self.go(to)
     }

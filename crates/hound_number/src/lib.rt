@@ -101,7 +101,7 @@ pub fn i24_from_le(bytes: [u8; 3]) -> i32
     ensures { result ≡ signed_number bytes }
 {
     let [low, middle, high] = bytes;
-    high.cast_signed() as i32 * 0x1_0000 + (low as i32 + middle as i32 * 0x100)
+    i16_from_le([middle, high]) as i32 * 0x100 + low as i32
 }
 
 /// The signed number in four bytes.

@@ -61,7 +61,7 @@ pub(crate) struct SavingReader<R> {
 
 impl<R: io::Read> SavingReader<R> {
     /// How many bytes a read gives, if it doesn't fail. The fault is saved, and so is the end.
-    #[inline]
+    #[inline(always)]
     pub(crate) fn read_or_save_error(&mut self, buf: &mut [u8]) -> Option<usize>
         ensures within { IfSome result (λ n. n ≤ length buf.new) }
         ensures bytes { IfSome result (λ n.

@@ -5,6 +5,7 @@
 #![tactic(auto)]
 
 mod blocks;
+mod file;
 mod item;
 mod laws;
 mod reader;

@@ -1,5 +1,5 @@
 // The reader of a file's samples.
-ghost use Rattle.std.specs.Prelude.{◌≡◌, ℕ, ◌*◌, ◌/◌, ◌%◌, ⊤, Some, ◌≤◌, drop, IfOk, IfErr, IfSome, MatchResult, ◌⊎◌};
+ghost use Rattle.std.specs.Prelude.{◌≡◌, ℕ, ◌*◌, ◌/◌, ◌%◌, ⊤, Some, ◌≤◌, drop, IfOk, IfErr, IfSome, MatchResult};
 ghost use Rattle.hound_number.specs.{WhereKnown};
 ghost use Rattle.hound_spec.specs.declared.spec.WavSpecEx.{WavSpecEx};
 ghost use Rattle.hound_walk.specs.{Readable, Unreadable, IsRejection, IsSoundSpec, OpensAs, FailsAs, TakesAll, UnreadableAfter, unread};
@@ -8,7 +8,6 @@ ghost use Rattle.hound_walk.specs.declared.cause.Cause.{Cause};
 ghost use Rattle.hound_medium.specs.{Shifts, WhereTells};
 ghost use Rattle.hound_reader.specs.Seeking.{Recounts, way_to};
 ghost use Rattle.hound_reader.specs.Samples.{lent_reader, lender, taken_reader};
-ghost use Rattle.hound_spec.specs.declared.error.Error.TheVariants.{OutOfMemory};
 
 use crate::item::{SavingReader, read_item_since, read_many_since, result_of, taken_without};
 use crate::samples::{WavIntoSamples, WavSamples};
@@ -16,12 +15,9 @@ use hound_medium::{Placed, Source};
 use hound_sample::{Sample, SampleError};
 use hound_spec::{Error, Result, WavSpec, WavSpecEx};
 use hound_walk::{FileHead, HeadError, SourceReader, error_of, read_until_samples};
-use std::alloc::Global;
 use std::io::ErrorKind;
 use std::marker::{Brand, Model, PhantomData};
-use std::path::Path;
-use std::rt::Files;
-use std::{fs, io, result};
+use std::{io, result};
 
 /// A reader of a file's samples.
 ///
@@ -347,34 +343,5 @@ impl<R: Source> WavReader<R> {
             Ok((head, num_samples)) => Ok(WavReader::over(source, head.spec_ex, num_samples)),
             Err(stop) => Err((source, error_of(stop))),
         }
-    }
-}
-
-impl WavReader<io::BufReader<fs::File>> {
-    /// Opens an existing file, which stays as it is, and takes what is before the data, by a buffer of `alloc`. `rt` is
-    /// what `main` and each test get; `alloc` is `rt.alloc()`.
-    ///
-    /// The errors, in their order: `IoError`, if the file can't be opened; `OutOfMemory`, if there is no memory for the
-    /// buffer; those of [`WavReader::new`].
-    ///
-    /// ```
-    /// let mut reader = WavReader::open(rt, rt.alloc(), path)?;
-    /// let mut block = [0i16; 4096];
-    /// let (count, result) = reader.read_samples(&mut block); // 4096, or those before an error.
-    /// ```
-    pub fn open(
-        rt: &impl Files<File = fs::File>,
-        alloc: Global,
-        path: Path<'_>,
-    ) -> Result<WavReader<io::BufReader<fs::File>>>
-        ensures fresh { IfOk result (λ r. (r.samples_read ≡ 0) × (r.bytes_read ≡ 0)) }
-        ensures sound { IfOk result (λ r. HasWholeFrames r) }
-        ensures reported { IfErr result (λ e. (e ≡ OutOfMemory) ⊎ IsRejection e (λ _. ⊤)) }
-    {
-        let file = fs::open(rt, path)?;
-        let Ok(reader) = io::BufReader::new(alloc, file) else {
-            return Err(Error::OutOfMemory);
-        };
-        WavReader::new(reader)
     }
 }

@@ -10,7 +10,7 @@ mod file;
 mod laws;
 mod look;
 mod machine;
-mod mend;
+pub(crate) mod mend;
 mod stages;
 
 pub use bytes::{find_damage_in_bytes, repair_bytes, set_sizes};

@@ -109,8 +109,8 @@ fn perform<M: Medium>(medium: &mut M, effect: Effect) -> io::Result<()>
     }
 }
 
-// Performs the effects that the task has for a file, up to one that fails.
-fn perform_all<M: Medium>(medium: &mut M, task: Task, damage: Damage) -> io::Result<()>
+/// Performs the effects that the task has for a file, up to one that fails.
+pub(crate) fn perform_all<M: Medium>(medium: &mut M, task: Task, damage: Damage) -> io::Result<()>
     requires { IsSoundDamage damage }
     ensures { WhereTells M.tells
         (PerformedOn M.keeps (effects_of_task task damage) result (M.state medium.old) (M.state medium.new)) }

@@ -17,8 +17,9 @@ use hound_spec::{Error, Result, SampleFormat};
 fn encode_8_bits(x: i32) -> Result<[u8; 4]>
     ensures { IsEncoded (if_fits 8 x (offset_byte x)) result }
 {
-    let Ok(narrow) = i8::try_from(x) else {
-        return Err(Error::TooWide);
+    let narrow = match i8::try_from(x) {
+        Ok(narrow) => narrow,
+        Err(_) => return Err(Error::TooWide),
     };
     Ok([u8_from_signed(narrow), 0, 0, 0])
 }
@@ -27,8 +28,9 @@ fn encode_8_bits(x: i32) -> Result<[u8; 4]>
 fn encode_16_bits(x: i32) -> Result<[u8; 4]>
     ensures { IsEncoded (if_fits 16 x (signed_bytes_of 2 x)) result }
 {
-    let Ok(narrow) = i16::try_from(x) else {
-        return Err(Error::TooWide);
+    let narrow = match i16::try_from(x) {
+        Ok(narrow) => narrow,
+        Err(_) => return Err(Error::TooWide),
     };
     let [low, high] = le_i16(narrow);
     Ok([low, high, 0, 0])

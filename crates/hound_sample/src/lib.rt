@@ -32,7 +32,7 @@ mod integer;
 mod item;
 mod laws;
 mod sample;
-mod scale;
+pub(crate) mod scale;
 mod slices;
 
 pub use amplitude::{Amplitude, UnitDouble, UnitFloat, store_amplitudes, store_with_noise};

@@ -1,8 +1,7 @@
 // Why a call on a reader or a writer failed.
 ghost use Rattle.std.specs.Prelude.{◌≡◌};
-ghost use Rattle.hound_spec.specs.declared.error.Error.TheVariants.{IoError, OutOfMemory};
+ghost use Rattle.hound_spec.specs.declared.error.Error.TheVariants.{IoError};
 
-use std::alloc::{AllocError, AllocFailed};
 use std::{io, result};
 use thiserror::Error as DeriveError;
 
@@ -48,24 +47,6 @@ impl From<io::Error> for Error {
 
     fn from(error: io::Error) -> Error {
         Error::IoError(error)
-    }
-}
-
-/// For `?` on an allocation: `OutOfMemory` in a function that returns an [`Error`].
-impl From<AllocError> for Error {
-    ghost from_gives = { λ _ r. r ≡ OutOfMemory };
-
-    fn from(_rejected: AllocError) -> Error {
-        Error::OutOfMemory
-    }
-}
-
-/// The same for an allocation that had a value to store, which is dropped.
-impl<T: Drop> From<AllocFailed<T>> for Error {
-    ghost from_gives = { λ _ r. r ≡ OutOfMemory };
-
-    fn from(_rejected: AllocFailed<T>) -> Error {
-        Error::OutOfMemory
     }
 }
 

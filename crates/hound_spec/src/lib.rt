@@ -1,6 +1,7 @@
 //! Specs, errors, and the header bytes of a writable spec.
 #![tactic(auto)]
 
+mod allocation;
 mod error;
 mod header;
 mod spec;

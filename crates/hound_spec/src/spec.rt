@@ -91,7 +91,7 @@ impl From<WavSpec> for WavSpecEx {
     fn from(spec: WavSpec) -> WavSpecEx {
         WavSpecEx {
             spec,
-            bytes_per_sample: spec.bits_per_sample.div_ceil(8),
+            bytes_per_sample: ((spec.bits_per_sample as u32 + 7) / 8) as u16,
         }
     }
 }

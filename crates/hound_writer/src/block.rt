@@ -63,12 +63,9 @@ impl Block {
         requires width { width ≤ 4 }
         ensures { self.new ≡ self.old ++ take width container }
     {
-        let [a, b, c, d] = container;
         let at = self.length;
-        self.bytes[at] = a;
-        self.bytes[at + 1] = b;
-        self.bytes[at + 2] = c;
-        self.bytes[at + 3] = d;
+        let end = at + container.len();
+        self.bytes[at..end].copy_from_slice(&container);
         self.length = at + width;
     }
 

@@ -2,7 +2,7 @@
 //! sizes into the header.
 #![tactic(auto)]
 
-mod append;
+pub(crate) mod append;
 mod batch;
 mod block;
 mod effects;

@@ -17,7 +17,7 @@ pub(crate) struct Output<W: Medium> {
     // The properties of the audio data, and the bytes of a container.
     spec_ex: WavSpecEx,
     // The medium that the file goes to.
-    writer: W,
+    pub(crate) writer: W,
     // The place of the first data byte.
     data_start: u64,
     // How many bytes of the accepted samples are written.
@@ -338,10 +338,10 @@ impl<W: Medium> Output<W> {
         self.len() % self.spec_ex.spec.channels as u32 == 0
     }
 
-    // Writes both sizes, once nothing is buffered, and flushes the medium. It is then at the end of the accepted
-    // samples if the writer continues, or else where the data begin.
+    // Writes both sizes, which count what is written, and flushes the medium. It is then where the data begin, or, if
+    // the writer continues, at the end of the accepted samples, of which none may be buffered then.
     fn publish(&mut self, continues: bool) -> io::Result<()>
-        requires { self.old.buffered ≡ [] }
+        requires { IsTrue continues → self.old.buffered ≡ [] }
         ensures stays { self.new ≡ record self.old { medium = self.new.medium } }
         ensures sound { IsSound self.old }
         ensures at_most { WhereTells W.tells (CountsAtMost self.old.spec_ex self.old.data_start self.old.bytes_written
@@ -376,6 +376,25 @@ impl<W: Medium> Output<W> {
         self.put_pad()?;
         let published = self.publish(continues);
         publish_result(published, self.are_frames())
+    }
+
+    /// Publishes the samples that are written, where the medium has no room for the buffered ones: a reader finds them,
+    /// if they are whole frames. Else nothing changes.
+    pub(crate) fn publish_written(&mut self) -> io::Result<()>
+        ensures stays { self.new ≡ record self.old { medium = self.new.medium } }
+        ensures patches { AreFrames (record self.old { buffered = [] }) → WhereTells W.tells
+            (Patches (self.old.data_start - 4) (riff_size self.old.data_start self.old.bytes_written)
+            self.old.bytes_written result (W.state self.old.medium) (W.state self.new.medium)) }
+        ensures moments { AreFrames (record self.old { buffered = [] }) → WhereKeeps W.tells W.keeps
+            (PatchesAtEach (self.old.data_start - 4) (riff_size self.old.data_start self.old.bytes_written)
+            self.old.bytes_written result (W.state self.old.medium) (W.state self.new.medium)) }
+        ensures untouched { (AreFrames (record self.old { buffered = [] }) → ⊥) → self.new ≡ self.old }
+    {
+        let samples = self.data_bytes_written / self.spec_ex.bytes_per_sample as u32;
+        if samples % self.spec_ex.spec.channels as u32 != 0 {
+            return Ok(());
+        }
+        self.publish(false)
     }
 
     /// The medium, once the writer is done with it.

@@ -151,8 +151,9 @@ impl<W: Medium> WavWriter<W> {
         ensures marked { Extends W.Placed
             (λ s. marked (write (container_in S.container s sample)) (mark_of result)) self.old self.new }
     {
-        let Err(no_sample) = self.output.accept_sample(sample, &mut self.fault) else {
-            return Ok(());
+        let no_sample = match self.output.accept_sample(sample, &mut self.fault) {
+            Ok(()) => return Ok(()),
+            Err(no_sample) => no_sample,
         };
         Err(error_of_sample(no_sample, &self.fault))
     }
@@ -175,8 +176,9 @@ impl<W: Medium> WavWriter<W> {
         ensures marked { Extends W.Placed
             (λ s. marked (write (containers_in S.container s samples.now)) (mark_of result)) self.old self.new }
     {
-        let Err(no_sample) = self.output.accept_samples(samples, &mut self.fault) else {
-            return Ok(());
+        let no_sample = match self.output.accept_samples(samples, &mut self.fault) {
+            Ok(()) => return Ok(()),
+            Err(no_sample) => no_sample,
         };
         Err(error_of_sample(no_sample, &self.fault))
     }

@@ -45,6 +45,15 @@ impl<M: Medium> Durable<M> {
     }
 }
 
+// The place so many bytes after another one, or before it if negative, if there is one.
+fn place_from(place: u64, by: i64) -> Option<u64> {
+    if by < 0 {
+        place.checked_sub(by.unsigned_abs())
+    } else {
+        place.checked_add(by as u64)
+    }
+}
+
 impl<M: Medium> Placed for Durable<M> {
     fn go(&mut self, to: u64) -> io::Result<()> {
         if to < self.end {
@@ -56,7 +65,7 @@ impl<M: Medium> Placed for Durable<M> {
     }
 
     fn shift(&mut self, by: i64) -> io::Result<()> {
-        let to = crate::rattle::checked_add_signed(self.place, by);
+        let to = place_from(self.place, by);
         let to = count_fault(to.ok_or(ErrorKind::InvalidInput), &mut self.faults)?;
         self.go(to)
     }

@@ -73,7 +73,7 @@ pub fn i16_from_le(bytes: [u8; 2]) -> i16 {
 #[inline(always)]
 pub fn i24_from_le(bytes: [u8; 3]) -> i32 {
     let [low, middle, high] = bytes;
-    high as i8 as i32 * 0x1_0000 + (low as i32 + middle as i32 * 0x100)
+    i16_from_le([middle, high]) as i32 * 0x100 + low as i32
 }
 
 /// The signed number in four bytes.

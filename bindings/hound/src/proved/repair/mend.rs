@@ -77,7 +77,7 @@ fn perform<M: Medium>(medium: &mut M, effect: Effect) -> io::Result<()> {
     }
 }
 
-// Performs the effects that the task has for a file, up to one that fails.
+/// Performs the effects that the task has for a file, up to one that fails.
 pub(crate) fn perform_all<M: Medium>(medium: &mut M, task: Task, damage: Damage) -> io::Result<()> {
     let mut number = 0;
     while let Some(effect) = damage.effect(task, number) {

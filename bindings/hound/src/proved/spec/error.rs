@@ -1,5 +1,6 @@
 // Made from crates/hound_spec by scripts/erase.py: change that, and not this.
 // Why a call on a reader or a writer failed.
+
 use std::{io, result};
 
 /// Why a call on a `WavReader`, a `WavWriter` or a `Sample`, or a repair, failed.
@@ -36,10 +37,6 @@ impl From<io::Error> for Error {
         Error::IoError(error)
     }
 }
-
-/// For `?` on an allocation: `OutOfMemory` in a function that returns an [`Error`].
-
-/// The same for an allocation that had a value to store, which is dropped.
 
 /// The result of a call that may fail with an [`Error`].
 pub type Result<T> = result::Result<T, Error>;

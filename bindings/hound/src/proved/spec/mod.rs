@@ -1,6 +1,5 @@
 // Made from crates/hound_spec by scripts/erase.py: change that, and not this.
 //! Specs, errors, and the header bytes of a writable spec.
-
 mod error;
 mod header;
 mod spec;

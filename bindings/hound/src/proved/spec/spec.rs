@@ -80,7 +80,7 @@ impl WavSpecEx {
 /// The spec with as many bytes to a sample as its bits need, rounded down: `(bits + 7) / 8`.
 impl From<WavSpec> for WavSpecEx {
     fn from(spec: WavSpec) -> WavSpecEx {
-        WavSpecEx { spec, bytes_per_sample: crate::rattle::div_ceil(spec.bits_per_sample, 8) }
+        WavSpecEx { spec, bytes_per_sample: ((spec.bits_per_sample as u32 + 7) / 8) as u16 }
     }
 }
 

@@ -35,7 +35,8 @@ impl Block {
     #[inline(always)]
     pub(crate) fn push(&mut self, container: [u8; 4], width: usize) {
         let at = self.length;
-        self.bytes[at..at + 4].copy_from_slice(&container);
+        let end = at + container.len();
+        self.bytes[at..end].copy_from_slice(&container);
         self.length = at + width;
     }
 

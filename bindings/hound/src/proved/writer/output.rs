@@ -233,8 +233,8 @@ impl<W: Medium> Output<W> {
         self.len() % self.spec_ex.spec.channels as u32 == 0
     }
 
-    // Writes both sizes, once nothing is buffered, and flushes the medium. It is then at the end of the accepted
-    // samples if the writer continues, or else where the data begin.
+    // Writes both sizes, which count what is written, and flushes the medium. It is then where the data begin, or, if
+    // the writer continues, at the end of the accepted samples, of which none may be buffered then.
     fn publish(&mut self, continues: bool) -> io::Result<()> {
         self.may_have_moved = true;
         let length = self.data_bytes_written;
@@ -255,6 +255,16 @@ impl<W: Medium> Output<W> {
         self.put_pad()?;
         let published = self.publish(continues);
         publish_result(published, self.are_frames())
+    }
+
+    /// Publishes the samples that are written, where the medium has no room for the buffered ones: a reader finds them,
+    /// if they are whole frames. Else nothing changes.
+    pub(crate) fn publish_written(&mut self) -> io::Result<()> {
+        let samples = self.data_bytes_written / self.spec_ex.bytes_per_sample as u32;
+        if samples % self.spec_ex.spec.channels as u32 != 0 {
+            return Ok(());
+        }
+        self.publish(false)
     }
 
     /// The medium, once the writer is done with it.

@@ -37,6 +37,16 @@ pub enum Health {
     Dead,
 }
 
+impl Health {
+    // The error of a call that a failure has ended.
+    pub(crate) fn error(self) -> RecorderError {
+        match self {
+            Health::Dead => RecorderError::SyncFailed,
+            Health::Sound | Health::Suspect => RecorderError::NeedsCheckpoint,
+        }
+    }
+}
+
 /// What is under way.
 #[derive(Clone, Copy, Debug, PartialEq, Eq)]
 pub enum Phase {
@@ -160,32 +170,18 @@ impl Recorder {
         checkpoint_effect(self.data_start, self.data_length, number - 1)
     }
 
-    // The next effect of a checkpoint of all that is written, or none if it is done; `ok` is whether the last one
-    // succeeded, and is ignored at the first.
-    pub(crate) fn next_effect(&mut self, ok: bool) -> Result<Option<Effect>, RecorderError> {
+    // The next effect of a checkpoint of all that is written, or none if all are done.
+    pub(crate) fn next_effect(&self) -> Result<Option<Effect>, RecorderError> {
         if self.health == Health::Dead {
-            self.number = 0;
             return Err(RecorderError::SyncFailed);
         }
         self.check_length(self.data_length as u64)?;
-        if self.number > 0 && !ok {
-            let failed = self.effect(self.number - 1);
-            self.number = 0;
-            if let Some(Effect::Sync) = failed {
-                self.health = Health::Dead;
-                return Err(RecorderError::SyncFailed);
-            }
-            self.health = Health::Suspect;
-            return Err(RecorderError::NeedsCheckpoint);
-        }
-        let next = self.effect(self.number);
-        match next {
-            Some(_) => self.number += 1,
-            None => {
-                self.number = 0;
-                self.health = Health::Sound;
-            }
-        }
-        Ok(next)
+        Ok(self.effect(self.number))
+    }
+
+    // The checkpoint that is under way has ended in an error.
+    pub(crate) fn stop(&mut self) {
+        self.number = 0;
+        self.phase = Phase::Idle;
     }
 }
