@@ -119,7 +119,7 @@ def erased(crate: str, path: Path, counts: list) -> str:
     """The module of a file."""
     text = without_ghosts(path.read_text())
     for number, entry in enumerate(REPLACEMENTS):
-        if entry.file in (f"{crate}/{path.name}", "*"):
+        if entry.file in (f"{crate}/{path.name}", f"{crate}/*", "*"):
             text, count = replaced(text, entry.old, entry.new)
             counts[number] += count
     for other, name in (name[:-3].split("/") for name in LEFT_OUT):
@@ -127,6 +127,7 @@ def erased(crate: str, path: Path, counts: list) -> str:
             for line in (f"mod {name};", f"pub use {name}::…;", f"pub use {name}::{{…}};"):
                 text = replaced(text, line, "")[0]
     text = PATH.sub(lambda path: f"crate::proved::{path[2] or crate}::" if path["path"] else path[0], text)
+    text = text.replace("](crate::", "](super::")  # Links in pages, of which those of a lib.rt name no crate.
     # Examples in pages are programs in Rattle.
     text = re.sub(r"^( *//[/!]) ```$(?=\n *//[/!] .)", r"\1 ```text", text, flags=re.M)
     return FIRST_LINE.format(crate) + text

@@ -4,14 +4,15 @@ anything without braces and semicolons. An `in_rt` entry could go if the .rt fil
 """
 from typing import NamedTuple
 
-CRATES = ["number", "spec", "sample", "medium", "durable", "walk", "reader", "writer", "repair"]
+CRATES = ["number", "spec", "sample", "medium", "durable", "walk", "reader", "writer", "repair", "slices"]
 
-# Files that bindings/hound doesn't use: laws, which are ghosts, media in memory, and files, which it opens itself.
+# Files that bindings/hound doesn't use: laws, which are ghosts, media in memory, files, which it opens itself, and the
+# structs that only C has.
 LEFT_OUT = [
     "number/laws.rt", "sample/laws.rt", "durable/laws.rt", "walk/laws.rt", "reader/laws.rt", "writer/laws.rt",
     "repair/laws.rt", "medium/bytes.rt", "medium/cursor.rt", "medium/file.rt", "medium/journal.rt", "medium/tape.rt",
-    "sample/amplitude.rt", "durable/file.rt", "writer/file.rt", "writer/batch.rt", "writer/machine.rt",
-    "repair/file.rt", "repair/bytes.rt",
+    "durable/file.rt", "writer/file.rt", "writer/batch.rt", "repair/file.rt", "slices/effect.rt", "slices/recording.rt",
+    "slices/repairer.rt", "slices/spec.rt", "slices/value.rt", "slices/walking.rt",
 ]
 
 
@@ -26,8 +27,8 @@ class Allowed(NamedTuple):
 
 REPLACEMENTS = [
     # What contracts need and Rust has no word for.
-    Allowed("*", 9, "#![tactic(…)]", "", "The prover's tactics."),
-    Allowed("*", 14, "#[tactic(…)]", "", "The prover's tactics."),
+    Allowed("*", 10, "#![tactic(…)]", "", "The prover's tactics."),
+    Allowed("*", 18, "#[tactic(…)]", "", "The prover's tactics."),
     Allowed("*", 5, "impl … Model for … {…}", "", "What a value is in contracts."),
     Allowed("*", 4, "use std::marker::Model;", "", "The trait of that."),
     Allowed("reader/reader.rt", 1, "use std::marker::{Brand, Model, PhantomData};",
@@ -49,6 +50,7 @@ REPLACEMENTS = [
     Allowed("sample/float.rt", 1, "use std::num::{f32_from_bits_with_nan, f32_to_bits_with_nan};", "", "As above."),
     Allowed("sample/float.rt", 1, "impl From<f32> for FloatBits {…}", "", "As above."),
     Allowed("sample/float.rt", 1, "impl FloatBits {…}", "", "As above."),
+    Allowed("*", 2, "use std::num::", "use crate::rattle::", "Conversions of floats."),
     Allowed("spec/error.rt", 1, ", DeriveError)]", ")]", "bindings/hound has the texts."),
     Allowed("spec/error.rt", 1, "use thiserror::Error as DeriveError;", "", "bindings/hound has the texts."),
     Allowed("spec/error.rt", 8, "#[error(…)]", "", "bindings/hound has the texts."),
@@ -63,6 +65,22 @@ REPLACEMENTS = [
             "use std::{io, result};", "bindings/hound opens files."),
     Allowed("writer/resuming.rt", 1, "fmt<W: fmt::Write>(&self, f: &mut fmt::Formatter<W>)",
             "fmt(&self, f: &mut fmt::Formatter<'_>)", "A formatter of Rust has no type of where it writes."),
+    # The slices take the spec of Rust, where those of C take one that `spec_from_c`, in spec.rt, makes such a spec. It
+    # makes each whose samples have a byte, and the other ones each of these calls rejects before it does anything else.
+    Allowed("slices/*", 9, "spec: HoundSpec,", "spec_ex: WavSpecEx,", "The spec of Rust."),
+    Allowed("slices/*", 9, "let spec_ex = spec_from_c(spec);", "", "The spec of Rust."),
+    Allowed("slices/searching.rt", 1, "use crate::spec::{HoundSpec, spec_from_c};", "use hound_spec::WavSpecEx;",
+            "The spec of Rust."),
+    Allowed("slices/*", 3, "use crate::spec::{HoundSpec, spec_from_c};", "", "The spec of Rust."),
+    # The proofs take usize for 64 bits.
+    Allowed("slices/writing.rt", 1, "Ok((data_length as u32, end as usize))",
+            "Ok((data_length as u32, usize::try_from(end).map_err(|_| CallError::TooLong)?))",
+            "A file of 4 GiB.", in_rt=True),
+    Allowed("slices/writing.rt", 1, "sizes_of(spec_ex, data_start as usize, samples)?",
+            "sizes_of(spec_ex, usize::try_from(data_start).map_err(|_| CallError::TooLong)?, samples)?",
+            "Data that begin after 4 GiB.", in_rt=True),
+    Allowed("slices/searching.rt", 1, "Ok((length - length % frame) as usize)",
+            "usize::try_from(length - length % frame).map_err(|_| CallError::TooLong)", "A stream of 4 GiB.", in_rt=True),
     # A value that is dropped is lent in Rust, and an io::Error isn't copied: one is moved out of where it was saved.
     Allowed("writer/write.rt", 1, "impl<W: Medium> Drop for WavWriter<W> {…}", "", "bindings/hound has its own."),
     Allowed("writer/write.rt", 2, "(no_sample, &self.fault)", "(no_sample, &mut self.fault)",

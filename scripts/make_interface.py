@@ -182,7 +182,7 @@ def structs_rust():
 
 
 def files_rust():
-    return [f'{number} => "{name}",' for number, name in FILES]
+    return wrapped([f'({number}, "{name}"),' for number, name in FILES], "", " ", 116)
 
 
 # Python
@@ -263,7 +263,7 @@ PARTS = [
     (HEADER, "The layout of the structs", layout_c),
     ("bindings/rust/src/lib.rs", "The errors", errors_rust),
     ("bindings/rust/src/lib.rs", "The constants and structs", structs_rust),
-    ("bindings/rust/src/lib.rs", "The names of kinds of files", files_rust),
+    ("bindings/hound/src/slices.rs", "The names of kinds of files", files_rust),
     ("bindings/python/hound_bindings/_library.py", "The errors", errors_python),
     ("bindings/python/hound_bindings/_library.py", "The constants and structs", structs_python),
     ("bindings/python/hound_bindings/_library.py", "The names of what files are", files_python),

@@ -457,7 +457,7 @@ if has python3 "the Python package" && has "$cc" "the Python package"; then
         check "the tests with what Python has on Windows, and what pip builds on other systems" python_systems
         has strace "killed Python programs, and failing calls of theirs" \
             && check "killed Python programs, and failing calls of theirs" python_faults
-        check "killed recordings in parts, by hound-wav, Python, C and Node" parts
+        check "killed recordings in parts, by hound-wav, Python, C, Node and Cargo" parts
         check "files of hound_rows, cut files and each code, beside the model, through cat.c and by record.c" rows
         check "the Python program of docs/BINDINGS.md" page_of_python
     else

@@ -5,8 +5,10 @@
 pub mod blocks;
 mod error;
 mod lock;
+pub mod machines;
 mod medium;
-#[allow(missing_docs, unused, clippy::all, rustdoc::private_intra_doc_links)]
+pub mod parts;
+#[allow(missing_docs, unused, clippy::all, rustdoc::private_intra_doc_links, rustdoc::broken_intra_doc_links)]
 #[forbid(unsafe_code)]
 #[rustfmt::skip]
 mod proved;
@@ -14,6 +16,7 @@ mod rattle;
 mod reader;
 mod repair;
 mod sample;
+pub mod slices;
 mod writer;
 
 pub use error::{Error, Result};
