@@ -55,7 +55,7 @@ on_arm() {
 
 proved() {
     cd bindings/lib && sha256sum --check --strict PROVED && [ "$(find . ../c/hound_c.c -type f ! -name PROVED \
-        | wc -l)" = "$(grep -vc '^#' PROVED)" ] && cmp ../c/hound_c.c ../rust/hound_c.c
+        | wc -l)" = "$(grep -vc '^#' PROVED)" ]
 }
 symbols() { # NM
     local words wanted
@@ -145,7 +145,7 @@ header_of_cpp() {
 source_of_cpp() {
     local standard
     for standard in c++11 c++20; do
-        c++ -O1 -Wall -Wextra -Werror "-std=$standard" -x c++ -c bindings/rust/hound_c.c -o "$work/cpp.o" \
+        c++ -O1 -Wall -Wextra -Werror "-std=$standard" -x c++ -c bindings/c/hound_c.c -o "$work/cpp.o" \
             && "$cc" $strict bindings/tests/calls.c "$work/cpp.o" -o "$work/cpp" && "$work/cpp" || return 1
     done
 }
@@ -167,25 +167,7 @@ no_library() {
     one_line() { [ "$(grep -c "none/libhound_c.a isn't there" "$work/said")" = 1 ]; }
     ! bindings/c/install.sh "$work/nowhere" 2> "$work/said" && one_line || return 1
     ! python3 -c "import sys; sys.path.insert(0, 'bindings/python'); import backend; backend.shared_library('$work')" \
-        2> "$work/said" && one_line || return 1
-    ! command -v cargo > /dev/null \
-        || { ! cargo build -q --offline --manifest-path bindings/rust/Cargo.toml --target-dir "$work/none" 2> \
-            "$work/said" && one_line && grep -q 'set HOUND_C_LIB to the absolute path of the folder that holds it' \
-            "$work/said"; }
-}
-# What HOUND_C_LIB names has another version, or none.
-other_version() {
-    local text words="--offline --manifest-path bindings/rust/Cargo.toml --target-dir $work/target.other"
-    export HOUND_C_LIB=$work/other
-    mkdir "$HOUND_C_LIB"
-    for text in 'int hound_version(void) { return 1; }' 'int other;'; do
-        echo "$text" > "$work/other.c" && "$cc" -c "$work/other.c" -o "$work/other.o" \
-            && ar crs "$HOUND_C_LIB/libhound_c.a" "$work/other.o" \
-            && ! cargo build -q $words 2> "$work/said" \
-                && grep -q 'has no library of version [0-9.]*: set HOUND_C_LIB to the folder of one' "$work/said" \
-                && rm "$HOUND_C_LIB/libhound_c.a" || return 1
-    done
-    HOUND_C_LIB=$(dirname "$library") cargo build -q $words
+        2> "$work/said" && one_line
 }
 by_source() { HOUND_C_SOURCE=1 installed "$work/source" && page c > "$work/page.c" \
     && "$cc" $strict "$work/page.c" bindings/c/hound_c.c -o "$work/page" && cd "$work" && ./page; }
@@ -202,16 +184,13 @@ has_flags() { grep -q '^flags.*popcnt' /proc/cpuinfo && lacking none true 2> /de
 quick_compiler() { printf '#!/bin/sh\nexec %s "$@" -O0\n' "$cc" > "$work/quick" && chmod +x "$work/quick"; }
 # Without a compiler only the library that is carried can be installed. An emulated processor runs the other one alone.
 old_processor() {
-    local flag words="--offline --manifest-path bindings/rust/Cargo.toml --target-dir $work/target.lacking"
+    local flag
     CC=none lacking none bindings/c/install.sh "$work/lacking" || return 1
     for flag in cx16 lahf_lm popcnt sse4_1 sse4_2 ssse3; do
         ! CC=none lacking $flag bindings/c/install.sh "$work/lacking" || return 1
-        ! command -v cargo > /dev/null || ! CC=none lacking $flag cargo build -q $words || return 1
     done
     quick_compiler && CC=$work/quick lacking ssse3 bindings/c/install.sh "$work/lacking" \
         && "$cc" $strict bindings/tests/calls.c "$work/lacking/lib/libhound_c.a" -o "$work/lacking/calls" || return 1
-    ! command -v cargo > /dev/null || { CC=$work/quick lacking ssse3 cargo build -q $words \
-        && [ -e "$work"/target.lacking/debug/build/hound_bindings-*/out/libhound_c.a ]; } || return 1
     ! command -v qemu-x86_64 > /dev/null || qemu-x86_64 -cpu core2duo "$work/lacking/calls"
 }
 takes_version() { # PREFIX VERSION
@@ -241,8 +220,6 @@ by_cmake() {
     done
 }
 python_by_source() { HOUND_C_LIBRARY=$work/source/lib/libhound_c.so python_tests files floats; }
-cargo_by_source() { HOUND_C_SOURCE=1 cargo test -q --tests --offline --manifest-path bindings/rust/Cargo.toml \
-    --target-dir "$work/target.source"; }
 # The modules of the Cargo package hound are the proved text, and a copy with another word isn't.
 erased() {
     scripts/erase.py --check && scripts/check_erased.py && cp -r bindings/hound/src/proved "$work/proved" \
@@ -275,7 +252,7 @@ page_of_python() {
 page_of_rust() {
     export CARGO_HOME=$work/cargo
     cargo new -q --vcs none "$work/user" && page rust > "$work/user/src/main.rs" && cd "$work/user" \
-        && $offline cargo add -q --git "file://$top" hound_bindings && $offline cargo run -q
+        && $offline cargo add -q --git "file://$top" hound && $offline cargo run -q
 }
 python_installed() {
     [ ! -e "${library%a}so" ] || export CC=none # and no compiler
@@ -296,8 +273,7 @@ parts() { "$python" bindings/tests/parts.py 3 short; }
 examples() { local name; for name in cat record repair; do "$cc" $strict "bindings/c/$name.c" "$library" -o \
     "$work/$name" || return 1; done; }
 rows() { "$python" bindings/tests/rows.py "$work/cat" "$work/record"; }
-cargo_tests() { cargo test -q --offline --manifest-path "bindings/$1/Cargo.toml" --target-dir "$work/target";
-    } # rust or hound
+cargo_tests() { cargo test -q --offline --manifest-path bindings/hound/Cargo.toml --target-dir "$work/target"; }
 # The first cargo that builds for a target.
 cargo_of() { # TARGET WHAT
     local cargo
@@ -321,15 +297,11 @@ cargo_in_32_bits() { # CARGO
 }
 # Wine ends programs that trace a panic, as Rust does of one within another.
 cargo_on_windows() { # CARGO
-    local crate cargo=$1
-    export RUSTC=${cargo%cargo}rustc RUST_BACKTRACE=0 WINEDEBUG=-all WINEPREFIX=$work/wine
+    export RUSTC=${1%cargo}rustc RUST_BACKTRACE=0 WINEDEBUG=-all WINEPREFIX=$work/wine
     export CARGO_TARGET_X86_64_PC_WINDOWS_GNU_LINKER=x86_64-w64-mingw32-gcc \
         CARGO_TARGET_X86_64_PC_WINDOWS_GNU_RUNNER=wine
-    for crate in rust hound; do
-        "$cargo" test -q --offline --target x86_64-pc-windows-gnu --tests --manifest-path "bindings/$crate/Cargo.toml" \
-            --target-dir "$work/target.windows" \
-            -- --skip a_medium_that_panics_always_ends_no_program || return 1
-    done
+    "$1" test -q --offline --target x86_64-pc-windows-gnu --tests --manifest-path bindings/hound/Cargo.toml \
+        --target-dir "$work/target.windows" -- --skip a_medium_that_panics_always_ends_no_program
 }
 user_of_hound() { # a program written for hound
     export CARGO_HOME=$work/cargo
@@ -472,17 +444,14 @@ if has python3 "the Python package" && has "$cc" "the Python package"; then
     has strace "repair_file" && has cargo "repair_file" \
         && check "the same by repair_file of the Cargo package hound" with_package bindings/tests/repairs.py cargo short
 fi
-if has cargo "the Cargo crate"; then
-    check "the tests of the Cargo crate" cargo_tests rust
-    check "the tests of the Cargo package hound" cargo_tests hound
+if has cargo "the Cargo package hound"; then
+    check "the tests of the Cargo package hound" cargo_tests
     check "Cargo packages and documents it" cargo_packaged
     has rustfmt "the modules of the Cargo package hound" \
         && check "the modules of the Cargo package hound are the proved text without its contracts" erased
-    check "Cargo rejects a library of another version" other_version
-    check "the tests of the Cargo crate over hound_c.c, which its build compiles" cargo_by_source
-    if has wine "the Cargo crates on Windows" && has x86_64-w64-mingw32-gcc "the Cargo crates on Windows" \
-        && cargo=$(cargo_of x86_64-pc-windows-gnu "the Cargo crates on Windows (Debian: libstd-rust-dev-windows)"); then
-        check "the tests of both Cargo crates on Windows" cargo_on_windows "$cargo"
+    if has wine "hound on Windows" && has x86_64-w64-mingw32-gcc "hound on Windows" \
+        && cargo=$(cargo_of x86_64-pc-windows-gnu "hound on Windows (Debian: libstd-rust-dev-windows)"); then
+        check "the tests of the Cargo package hound on Windows" cargo_on_windows "$cargo"
     fi
     if has node "hound in 32 bits" \
         && cargo=$(cargo_of wasm32-wasi "hound in 32 bits (Debian: libstd-rust-dev-wasm32)"); then
@@ -490,7 +459,7 @@ if has cargo "the Cargo crate"; then
     fi
     check "a program written for hound, which adds that package from a clone" user_of_hound
     check "the same after cargo vendor" vendored
-    check "the Rust program of docs/BINDINGS.md, which adds the crate from a clone" page_of_rust
+    check "the Rust program of docs/BINDINGS.md, which adds it from a clone" page_of_rust
 fi
 has python3 "that hound.html is made" \
     && check "hound.html is what its script makes of the package and the module" bindings/js/page/make.py --check

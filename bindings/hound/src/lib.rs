@@ -20,6 +20,7 @@ pub mod slices;
 mod writer;
 
 pub use error::{Error, Result};
+pub use lock::lock;
 pub use proved::spec::{SampleFormat, WavSpec, WavSpecEx};
 pub use reader::{read_wave_header, WavIntoSamples, WavReader, WavSamples};
 pub use repair::{repair_file, repair_file_to_end, Repair, RepairState};

@@ -117,6 +117,24 @@ fn what_can_not_be_recorded_leaves_no_file() {
     assert_eq!((writer.len(), folder.names()), (0, vec!["take.wav".into()]));
 }
 
+// A pipe takes the samples of the first file, but no sizes at its beginning, so it can't be ended.
+#[cfg(unix)]
+#[test]
+fn a_next_file_is_removed_where_the_file_before_can_not_be_ended() {
+    let folder = Folder::new("pipe");
+    let pipe = folder.file("take.wav");
+    assert!(process::Command::new("mkfifo").arg(&pipe).status().unwrap().success());
+    let reader = std::thread::spawn(move || fs::read(pipe).unwrap());
+    let mut writer = PartsWriter::create(folder.file("take.wav"), STEREO, 5).unwrap();
+    writer.write_samples(&frames(0, 5)).unwrap();
+    for _ in 0..2 {
+        assert!(writer.write_samples(&frames(5, 5)).is_err());
+        assert_eq!((folder.names(), writer.len()), (vec!["take.wav".into()], 10));
+    }
+    drop(writer);
+    assert_eq!(reader.join().unwrap().len(), 68 + 5 * 6);
+}
+
 #[test]
 #[should_panic(expected = "a file has at least one frame")]
 fn a_file_of_no_frames_panics() {
