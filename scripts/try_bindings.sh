@@ -284,16 +284,62 @@ cargo_of() { # TARGET WHAT
     echo "bindings: passed over, since a cargo that builds for $1 isn't here: $2" >&2
     return 1
 }
-# A program over the Cargo package hound answers the same where usize has 32 bits.
+# Where usize has 32 bits the machines and slices of the Cargo package hound do what their tests say, and a program over
+# its readers and writers answers the same as here.
 cargo_in_32_bits() { # CARGO
-    export RUSTC=${1%cargo}rustc
-    "$1" new -q --vcs none "$work/narrow" && cp bindings/tests/narrow.rs "$work/narrow/src/main.rs" \
+    export RUSTC=${1%cargo}rustc CARGO_TARGET_WASM32_WASI_RUNNER="node --no-warnings $work/wasi.mjs"
+    cat > "$work/wasi.mjs" << 'END'
+import { readFile } from "node:fs/promises";
+import { WASI } from "node:wasi";
+const wasi = new WASI({ version: "preview1", returnOnExit: true });
+const imports = { wasi_snapshot_preview1: wasi.wasiImport };
+const { instance } = await WebAssembly.instantiate(await readFile(process.argv[2]), imports);
+process.exitCode = wasi.start(instance);
+END
+    "$1" test -q --offline --target wasm32-wasi --test machines --test slices --target-dir "$work/target.wasi" \
+        --manifest-path bindings/hound/Cargo.toml \
+        && "$1" new -q --vcs none "$work/narrow" && cp bindings/tests/narrow.rs "$work/narrow/src/main.rs" \
         && printf 'hound = { path = "%s/bindings/hound" }\n' "$top" >> "$work/narrow/Cargo.toml" \
         && cd "$work/narrow" && "$1" run -q --offline > native \
-        && "$1" build -q --offline --target wasm32-wasi || return 1
-    node --no-warnings --input-type=module -e \
-        'import { readFile } from "node:fs/promises"; import { WASI } from "node:wasi"; const wasi = new WASI({ version: "preview1" }); const { instance } = await WebAssembly.instantiate(await readFile("target/wasm32-wasi/debug/narrow.wasm"), { wasi_snapshot_preview1: wasi.wasiImport }); wasi.start(instance);' > narrow \
-        && cmp native narrow
+        && "$1" run -q --offline --target wasm32-wasi > narrow && cmp native narrow
+}
+cargo_for() { # CARGO TARGET
+    local words="--offline --target $2 --manifest-path bindings/hound/Cargo.toml --target-dir $work/target.reach"
+    export RUSTC=${1%cargo}rustc
+    "$1" build -q $words && "$1" build -q --no-default-features $words
+}
+# A program over the machines and slices alone, which has no std.
+program_without_std() {
+    mkdir -p "$work/nostd/src" && cp bindings/tests/nostd.rs "$work/nostd/src/lib.rs" && cd "$work/nostd" || return 1
+    cat > Cargo.toml << END
+[package]
+name = "nostd"
+version = "0.1.0"
+edition = "2021"
+rust-version = "1.63"
+[lib]
+crate-type = ["staticlib", "cdylib"]
+[dependencies]
+hound = { path = "$top/bindings/hound", default-features = false }
+[profile.release]
+panic = "abort"
+lto = true
+overflow-checks = true
+debug-assertions = true
+END
+    printf '#include <stdint.h>\n#include <stdio.h>\nuint64_t hound_answer(void);\nint main(void) { return printf("%%016llx\\n", (unsigned long long)hound_answer()) != 17; }\n' > main.c
+    cargo build -q --offline --release && "$cc" main.c target/release/libnostd.a -o main && timeout 60 ./main > here
+}
+cargo_without_std() {
+    cargo test -q --offline --no-default-features --target-dir "$work/target" \
+        --manifest-path bindings/hound/Cargo.toml && program_without_std
+}
+# The same answer in WebAssembly.
+wasm_without_std() { # CARGO
+    cd "$work/nostd" && RUSTC=${1%cargo}rustc "$1" build -q --offline --release --target wasm32-unknown-unknown \
+        && timeout 60 node --input-type=module -e \
+            'import { readFile } from "node:fs/promises"; const { instance } = await WebAssembly.instantiate(await readFile(process.argv[1])); console.log(BigInt.asUintN(64, instance.exports.hound_answer()).toString(16).padStart(16, "0"));' \
+            target/wasm32-unknown-unknown/release/nostd.wasm > there && cmp here there
 }
 # Wine ends programs that trace a panic, as Rust does of one within another.
 cargo_on_windows() { # CARGO
@@ -455,7 +501,18 @@ if has cargo "the Cargo package hound"; then
     fi
     if has node "hound in 32 bits" \
         && cargo=$(cargo_of wasm32-wasi "hound in 32 bits (Debian: libstd-rust-dev-wasm32)"); then
-        check "a program over the Cargo package hound, where usize has 32 bits" cargo_in_32_bits "$cargo"
+        check "a program over the Cargo package hound, and its machines and slices, where usize has 32 bits" \
+            cargo_in_32_bits "$cargo"
+    fi
+    for target in wasm32-unknown-unknown wasm32-wasi x86_64-pc-windows-gnu; do
+        ! cargo=$(cargo_of $target "hound for it (Debian: libstd-rust-dev-wasm32, libstd-rust-dev-windows)") \
+            || check "the Cargo package hound is built for $target, with std and without" cargo_for "$cargo" $target
+    done
+    if has "$cc" "hound without std"; then
+        check "the machines and slices of the Cargo package hound without std" cargo_without_std
+        has node "hound without std in WebAssembly" \
+            && cargo=$(cargo_of wasm32-unknown-unknown "hound without std in WebAssembly") \
+            && check "they answer the same in WebAssembly, where usize has 32 bits" wasm_without_std "$cargo"
     fi
     check "a program written for hound, which adds that package from a clone" user_of_hound
     check "the same after cargo vendor" vendored

@@ -1,9 +1,7 @@
 use crate::lock::open_locked;
+use crate::machines::{FoundFile, RepairState, Task};
 use crate::medium::{Input, Output, SyncBy};
 use crate::proved::repair::mend::{look_by_parts, perform_all};
-pub use crate::proved::repair::RepairState;
-use crate::proved::repair::Task;
-use crate::proved::writer::FoundFile;
 use crate::{Error, Result, WavSpecEx};
 use std::io::{self, Seek};
 use std::{fs, path};

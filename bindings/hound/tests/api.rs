@@ -1,4 +1,5 @@
 //! Each public item, as programs of hound use it.
+#![cfg(feature = "std")]
 mod common;
 
 use common::{numbers, write_by, written, Inverse, Path, MONO, WAYS};

@@ -1,4 +1,5 @@
 //! Recordings in parts, whose kills bindings/tests/parts.py tries.
+#![cfg(feature = "std")]
 use hound::blocks::ReadSamples;
 use hound::parts::PartsWriter;
 use hound::{Error, Result, SampleFormat, WavReader, WavSpec};
@@ -84,7 +85,8 @@ fn a_next_file_that_is_there_is_an_error_and_stays() {
     let folder = Folder::new("there");
     fs::write(folder.file("take-002"), "mine").unwrap();
     assert_eq!(kind_of(PartsWriter::create(folder.file("take"), STEREO, 5)), ErrorKind::AlreadyExists);
-    assert_eq!((folder.names(), fs::read(folder.file("take-002")).unwrap()), (vec!["take-002".into()], b"mine".into()));
+    assert_eq!(folder.names(), ["take-002"]);
+    assert_eq!(fs::read(folder.file("take-002")).unwrap(), b"mine");
     fs::rename(folder.file("take-002"), folder.file("take-003")).unwrap();
 
     let mut writer = PartsWriter::create(folder.file("take"), STEREO, 5).unwrap();

@@ -28,11 +28,12 @@ fn samples_are_encoded_and_decoded() {
     assert_eq!(bytes, [0xfe, 0xff, 0xff, 0, 0xff, 0xff, 0x7f, 0]);
     let mut wide = [7i32; 2];
     assert_eq!((decode_block(spec_of(Int, 24, 4), &bytes, &mut wide), wide), (Ok(2), [-2, 8_388_607]));
-    // Floats keep their bits, whatever they are.
-    let (pattern, mut floats) = (f32::from_bits(0x7fa1_2345), [0f32; 1]);
+    // Floats keep their bits, whatever they are; only the x87, through which i686 returns floats, makes each NaN quiet.
+    let signals = if cfg!(target_arch = "x86") { 0x7fe1_2345 } else { 0x7fa1_2345 };
+    let (pattern, mut floats) = (f32::from_bits(signals), [0f32; 1]);
     assert_eq!(encode_block(spec_of(Float, 32, 4), Float, &[pattern], &mut bytes), Ok(4));
     assert_eq!(decode_block(spec_of(Float, 32, 4), &bytes[..4], &mut floats), Ok(1));
-    assert_eq!((&bytes[..4], floats[0].to_bits()), (&[0x45, 0x23, 0xa1, 0x7f][..], 0x7fa1_2345));
+    assert_eq!((&bytes[..4], floats[0].to_bits()), (&signals.to_le_bytes()[..], signals));
 }
 
 #[test]
