@@ -65,13 +65,6 @@ REPLACEMENTS = [
             "use std::{io, result};", "bindings/hound opens files."),
     Allowed("writer/resuming.rt", 1, "fmt<W: fmt::Write>(&self, f: &mut fmt::Formatter<W>)",
             "fmt(&self, f: &mut fmt::Formatter<'_>)", "A formatter of Rust has no type of where it writes."),
-    # The slices take the spec of Rust, where those of C take one that `spec_from_c`, in spec.rt, makes such a spec. It
-    # makes each whose samples have a byte, and the other ones each of these calls rejects before it does anything else.
-    Allowed("slices/*", 9, "spec: HoundSpec,", "spec_ex: WavSpecEx,", "The spec of Rust."),
-    Allowed("slices/*", 9, "let spec_ex = spec_from_c(spec);", "", "The spec of Rust."),
-    Allowed("slices/searching.rt", 1, "use crate::spec::{HoundSpec, spec_from_c};", "use hound_spec::WavSpecEx;",
-            "The spec of Rust."),
-    Allowed("slices/*", 3, "use crate::spec::{HoundSpec, spec_from_c};", "", "The spec of Rust."),
     Allowed("writer/output.rt", 1, "Option<Vec<i16>>", "Option<()>", "Nothing here allocates."),
     # The proofs take usize for 64 bits.
     Allowed("slices/writing.rt", 1, "Ok((data_length as u32, end as usize))",
@@ -157,4 +150,29 @@ REPLACEMENTS = [
             "for (sample, container) in samples.iter_mut().zip(from.chunks_exact(size.max(1))) {"
             " *sample = S::decode(container, fmt, width, bits);", "No check, so that LLVM makes vectors of it.",
             in_rt=True),
+]
+
+# The slices take the spec of Rust, where those of C take one of which `spec_from_c`, in spec.rt, makes such a spec. It
+# makes each whose samples have a byte, and the other ones each of these calls rejects before it does anything else.
+OF_RUST = [
+    Allowed("slices/*", 9, "spec: HoundSpec,", "spec_ex: WavSpecEx,", "The spec of Rust."),
+    Allowed("slices/*", 9, "let spec_ex = spec_from_c(spec);", "", "The spec of Rust."),
+    Allowed("slices/searching.rt", 1, "use crate::spec::{HoundSpec, spec_from_c};", "use hound_spec::WavSpecEx;",
+            "The spec of Rust."),
+    Allowed("slices/*", 3, "use crate::spec::{HoundSpec, spec_from_c};", "", "The spec of Rust."),
+]
+REPLACEMENTS += OF_RUST
+
+# The whole library as C has it, which erase.py --whole makes for bindings/tests/erased.py alone: all files of slices,
+# and hound_c, whose exports are functions there.
+WHOLE_CRATES = [*CRATES, "c"]
+WHOLE_LEFT_OUT = [name for name in LEFT_OUT if not name.startswith("slices/")]
+WHOLE_REPLACEMENTS = [entry for entry in REPLACEMENTS if entry not in OF_RUST] + [
+    Allowed("slices/spec.rt", 1, "spec.bits_per_sample.div_ceil(8)",
+            "(spec.bits_per_sample / 8 + u16::from(spec.bits_per_sample % 8 > 0))", "u16::div_ceil is of Rust 1.73."),
+    Allowed("slices/recording.rt", 1, "pub has_rest: u16,", "pub has_rest: u16, pub unused: u16,",
+            "C's struct has two bytes more, which the kit's compiler makes zeros."),
+    Allowed("slices/recording.rt", 1, "has_rest: if recorder.has_rest { 1 } else { 0 },",
+            "has_rest: if recorder.has_rest { 1 } else { 0 }, unused: 0,", "The rest of that."),
+    Allowed("c/lib.rt", 56, '#[unsafe(no_mangle)] pub extern "C" fn', "pub fn", "Rust has no slices in C."),
 ]

@@ -412,6 +412,21 @@ answers() {
 }
 node_package() { node bindings/tests/package.mjs < "$work/requests"; }
 same_answers() { "$@" < "$work/requests" | cmp - "$work/answers"; }
+# The whole library of the proved text without its contracts, built by cargo with overflow checks, does what the other
+# one does, and its wrong versions don't.
+erased_library() {
+    local wrong
+    bindings/tests/erased.py "$work/erased" && library=$work/erased/libhound_c.a || return 1
+    user calls -- && user hostile 20000 -- && user disk 30000 -- && same_answers user answer -- && examples \
+        && HOUND_C_LIBRARY=$work/erased/libhound_c.so PYTHONPATH=bindings/python python3 bindings/tests/rows.py \
+            "$work/cat" "$work/record" || return 1
+    bindings/tests/erased.py --wrong > "$work/faults" && [ "$(wc -l < "$work/faults")" -ge 5 ] || return 1
+    while IFS= read -r wrong; do
+        rm -rf "$work/erased.wrong" && bindings/tests/erased.py "$work/erased.wrong" "$wrong" || return 1
+        library=$work/erased.wrong/libhound_c.a
+        ! same_answers user answer -- || { echo "no answer is another one with: $wrong"; return 1; }
+    done < "$work/faults"
+}
 takes_wasm64() { node "$@" -e \
     'process.exit(WebAssembly.validate(new Uint8Array([0, 97, 115, 109, 1, 0, 0, 0, 5, 3, 1, 4, 1])) ? 0 : 1)' > \
     /dev/null 2>&1; }
@@ -540,6 +555,9 @@ else
 fi
 if has python3 "the libraries of other processors" && has "$cc" "the libraries of other processors"; then
     check "each code among the answers to requests.py" answers
+    has cargo "the library of the proved text" && has rustfmt "the library of the proved text" \
+        && check "the whole proved text without its contracts, by cargo, does what the library does, and answers the same" \
+            erased_library
     if has aarch64-linux-gnu-gcc "ARM (Debian: gcc-aarch64-linux-gnu)" && has qemu-aarch64 "ARM (Debian: qemu-user)" \
         && has_libc_of_arm; then
         check "the symbols of the library for ARM" on_arm symbols aarch64-linux-gnu-nm

@@ -3,6 +3,9 @@
 #![deny(unsafe_code)]
 #![warn(missing_docs)]
 
+#[cfg(all(target_arch = "x86", not(target_feature = "sse2")))]
+compile_error!("the x87 rounds floats otherwise than the proofs say: build hound with -C target-feature=+sse2");
+
 // What the proved code names of `std` is here, where there is none.
 #[cfg(not(feature = "std"))]
 extern crate self as std;
