@@ -1,6 +1,6 @@
 #!/usr/bin/env bash
 # For those with the Rattle kit: proves hound_c and what it uses, where that isn't proved yet, and builds it into
-# crates/hound_c/out. With HOUND_C_LIB=$PWD/crates/hound_c/out in the environment, bindings/c/install.sh, pip and cargo
+# crates/hound_c/out. With HOUND_C_LIB=$PWD/crates/hound_c/out in the environment, bindings/c/install.sh and pip
 # take that library in the place of the one in bindings/lib. The first time this takes a quarter of an hour.
 set -eu -o pipefail
 cd "$(dirname "$0")/.."

@@ -3,7 +3,7 @@
 # them, the sha256 of each file, its length, and the line with which it was proved. Binaryen makes the module for a
 # memory of 32 bits from the one for 64, scripts/portable bindings/c/hound_c.c, and the kit's linker the shared
 # libraries: so these are trusted with them.
-#   scripts/carry.sh [LOG]              writes the files, the copy of hound_c.c for Cargo, and the page
+#   scripts/carry.sh [LOG]              writes the files and the page
 #   scripts/carry.sh --check [LOG]      writes none, and fails where one isn't, byte for byte, what the proofs give
 # Another kit than that may compile to other bytes: then only the sums are compared, and it says so. LOG is what an `rt
 # ci` that is running says: once the libraries below hound_c are proved, they are taken as they are, and hound_c alone
@@ -133,9 +133,7 @@ made() { # FILE HOW
     (cd "$work/lib" && echo "# $(wc -c < "$1") bytes, made by $2" && sha256sum "$1") >> "$work/lib/PROVED"
 }
 
-copy=bindings/rust/hound_c.c # for Cargo, which packages and vendors no file from outside of a crate
-if [ -n "$check" ] && ! { (cd bindings/lib && sha256sum --check --strict --quiet PROVED) \
-    && cmp bindings/c/hound_c.c "$copy"; }; then
+if [ -n "$check" ] && ! (cd bindings/lib && sha256sum --check --strict --quiet PROVED); then
     echo "carry: bindings/lib and hound_c.c aren't what PROVED says; scripts/carry.sh makes them" >&2
     exit 1
 fi
@@ -164,7 +162,6 @@ else
     mkdir -p bindings/lib
     cp -r "$work/lib/." bindings/lib
     cp "$work/c/hound_c.c" bindings/c
-    cp bindings/c/hound_c.c "$copy"
     bindings/js/page/make.py
     echo "carry: bindings/lib has $(cat "$work"/lib/*/*.{a,so} "$work"/lib/*.wasm | wc -c) bytes"
 fi

@@ -23,11 +23,12 @@ import sys
 TOP = os.path.dirname(os.path.dirname(os.path.abspath(__file__)))
 PAGES = ["README.md"] + sorted("docs/" + name for name in os.listdir(os.path.join(TOP, "docs")) if name.endswith(".md"))
 LIBRARY = r"crates/hound(_number|_spec|_sample|_medium|_durable|_walk|_reader|_writer|_repair|_slices|_c)?"
-# Names of Rust, of the kit, of other programs, and of the original crate (its private functions).
+# Names of Rust, of the kit, of other programs, of the original crate (its private functions), and of hound_bindings of
+# Cargo, which is gone.
 FOREIGN = set(
     "ReadExt WriteExt x86-64 MutRef MutRefTo crates/mine crates/mine/src/main.rt _cut iter_next iter_size_hint "
     "update_header read_append write_headers write_u16_le_unchecked ChunkHeader ChunkKind FmtKind read_4_bytes "
-    "read_chunk_header read_le_i16 write_le_i16".split()
+    "read_chunk_header read_le_i16 write_le_i16 Mode decode_scaled encode_scaled header_to".split()
 )
 
 

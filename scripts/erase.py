@@ -4,7 +4,8 @@ deleted. It is trusted, so it is short, and knows no more of Rust than tokens an
 the replacements of erase_table.py, writes the paths of other crates as those of modules, and calls rustfmt.
 check_erased.py, which shares nothing with it but that table, shows that nothing else has changed.
 
-usage: scripts/erase.py [--check]     (it writes the modules; with --check it compares them, and writes nothing)
+usage: scripts/erase.py [--check]           (it writes the modules; with --check it compares them, and writes nothing)
+       scripts/erase.py --whole FOLDER      (for tests: those of the whole library, as C has it, in a new folder)
 """
 import re
 import shutil
@@ -12,7 +13,7 @@ import subprocess
 import sys
 from pathlib import Path
 
-from erase_table import CRATES, LEFT_OUT, REPLACEMENTS
+from erase_table import CRATES, LEFT_OUT, REPLACEMENTS, WHOLE_CRATES, WHOLE_LEFT_OUT, WHOLE_REPLACEMENTS
 
 TOP = Path(__file__).resolve().parent.parent
 MADE = TOP / "bindings/hound/src/proved"
@@ -115,35 +116,37 @@ def replaced(text: str, old: str, new: str) -> tuple:
     return "".join(parts) + text[end:], count
 
 
-def erased(crate: str, path: Path, counts: list) -> str:
+def erased(crate: str, path: Path, left_out: list, replacements: list, counts: list) -> str:
     """The module of a file."""
     text = without_ghosts(path.read_text())
-    for number, entry in enumerate(REPLACEMENTS):
-        if entry.file in (f"{crate}/{path.name}", "*"):
+    for number, entry in enumerate(replacements):
+        if entry.file in (f"{crate}/{path.name}", f"{crate}/*", "*"):
             text, count = replaced(text, entry.old, entry.new)
             counts[number] += count
-    for other, name in (name[:-3].split("/") for name in LEFT_OUT):
+    for other, name in (name[:-3].split("/") for name in left_out):
         if other == crate and path.name == "lib.rt":
             for line in (f"mod {name};", f"pub use {name}::…;", f"pub use {name}::{{…}};"):
                 text = replaced(text, line, "")[0]
     text = PATH.sub(lambda path: f"crate::proved::{path[2] or crate}::" if path["path"] else path[0], text)
+    text = text.replace("](crate::", "](super::")  # Links in pages, of which those of a lib.rt name no crate.
     # Examples in pages are programs in Rattle.
     text = re.sub(r"^( *//[/!]) ```$(?=\n *//[/!] .)", r"\1 ```text", text, flags=re.M)
     return FIRST_LINE.format(crate) + text
 
 
-def modules() -> dict:
-    """The modules by their paths."""
-    made, counts = {}, [0] * len(REPLACEMENTS)
-    for crate in CRATES:
+def modules(folder: Path, crates: list, left_out: list, replacements: list) -> dict:
+    """The modules of a folder by their paths."""
+    made, counts = {}, [0] * len(replacements)
+    for crate in crates:
         for path in sorted((TOP / f"crates/hound_{crate}/src").glob("*.rt")):
-            if f"{crate}/{path.name}" not in LEFT_OUT:
+            if f"{crate}/{path.name}" not in left_out:
                 name = "mod.rs" if path.name == "lib.rt" else path.stem + ".rs"
-                made[MADE / crate / name] = erased(crate, path, counts)
-    made[MADE / "mod.rs"] = "//! The proved code, without its contracts: scripts/erase.py makes it.\n" + "".join(
-        f"pub mod {crate};\n" for crate in CRATES)
+                made[folder / crate / name] = erased(crate, path, left_out, replacements, counts)
+    made[folder / "mod.rs"] = "//! The proved code, without its contracts: scripts/erase.py makes it.\n" + "".join(
+        f"pub mod {crate};\n" for crate in crates)
     wrong = [f"{count} times instead of {entry.times}: {entry.file}: {entry.old}"
-             for entry, count in zip(REPLACEMENTS, counts) if count != entry.times]
+             for entry, count in zip(replacements, counts)
+             if count != entry.times and (entry.file != "*" or crates == CRATES)]
     if wrong:
         raise SystemExit("erase: " + "\nerase: ".join(wrong))
     return {path: formatted(text) for path, text in made.items()}
@@ -156,14 +159,17 @@ def formatted(text: str) -> str:
 
 
 def main() -> None:
-    made = modules()
-    there = {path: path.read_text() for path in MADE.rglob("*.rs")}
+    if len(sys.argv) == 3 and sys.argv[1] == "--whole":
+        made, there = modules(Path(sys.argv[2]), WHOLE_CRATES, WHOLE_LEFT_OUT, WHOLE_REPLACEMENTS), {}
+    else:
+        made = modules(MADE, CRATES, LEFT_OUT, REPLACEMENTS)
+        there = {path: path.read_text() for path in MADE.rglob("*.rs")}
     differ = sorted(path for path in made.keys() | there.keys() if made.get(path) != there.get(path))
     if sys.argv[1:] == ["--check"]:
         for path in differ:
             print(f"erase: {path.relative_to(TOP)} isn't what scripts/erase.py makes")
         sys.exit(1 if differ else 0)
-    if sys.argv[1:]:
+    if sys.argv[1:] and sys.argv[1] != "--whole":
         raise SystemExit(__doc__)
     for path in differ:
         if path in made:

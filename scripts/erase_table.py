@@ -4,15 +4,16 @@ anything without braces and semicolons.
 """
 from typing import NamedTuple
 
-CRATES = ["number", "spec", "sample", "medium", "durable", "walk", "reader", "writer", "repair"]
+CRATES = ["number", "spec", "sample", "medium", "durable", "walk", "reader", "writer", "repair", "slices"]
 
-# Files that bindings/hound doesn't use: laws, which are ghosts, media in memory, allocators, and files, which it opens
-# itself.
+# Files that bindings/hound doesn't use: laws, which are ghosts, media in memory, allocators, files, which it opens
+# itself, and the structs that only C has.
 LEFT_OUT = [
     "number/laws.rt", "sample/laws.rt", "durable/laws.rt", "walk/laws.rt", "reader/laws.rt", "writer/laws.rt",
     "repair/laws.rt", "medium/bytes.rt", "medium/cursor.rt", "medium/file.rt", "medium/journal.rt", "medium/tape.rt",
-    "spec/allocation.rt", "sample/amplitude.rt", "durable/file.rt", "reader/file.rt", "writer/file.rt",
-    "writer/batch.rt", "writer/machine.rt", "repair/file.rt", "repair/bytes.rt",
+    "spec/allocation.rt", "durable/file.rt", "reader/file.rt", "writer/file.rt", "writer/batch.rt", "repair/file.rt",
+    "slices/effect.rt", "slices/recording.rt", "slices/repairer.rt", "slices/spec.rt", "slices/value.rt",
+    "slices/walking.rt",
 ]
 
 
@@ -26,8 +27,8 @@ class Allowed(NamedTuple):
 
 REPLACEMENTS = [
     # What contracts need and Rust has no word for.
-    Allowed("*", 9, "#![tactic(…)]", "", "The prover's tactics."),
-    Allowed("*", 14, "#[tactic(…)]", "", "The prover's tactics."),
+    Allowed("*", 10, "#![tactic(…)]", "", "The prover's tactics."),
+    Allowed("*", 18, "#[tactic(…)]", "", "The prover's tactics."),
     Allowed("*", 5, "impl … Model for … {…}", "", "What a value is in contracts."),
     Allowed("*", 4, "use std::marker::Model;", "", "The trait of that."),
     Allowed("reader/reader.rt", 1, "use std::marker::{Brand, Model, PhantomData};",
@@ -49,6 +50,7 @@ REPLACEMENTS = [
     Allowed("sample/float.rt", 1, "use std::num::{f32_from_bits_with_nan, f32_to_bits_with_nan};", "", "As above."),
     Allowed("sample/float.rt", 1, "impl From<f32> for FloatBits {…}", "", "As above."),
     Allowed("sample/float.rt", 1, "impl FloatBits {…}", "", "As above."),
+    Allowed("*", 2, "use std::num::", "use crate::rattle::", "Conversions of floats."),
     Allowed("spec/error.rt", 1, ", DeriveError)]", ")]", "bindings/hound has the texts."),
     Allowed("spec/error.rt", 1, "use thiserror::Error as DeriveError;", "", "bindings/hound has the texts."),
     Allowed("spec/error.rt", 8, "#[error(…)]", "", "bindings/hound has the texts."),
@@ -56,6 +58,16 @@ REPLACEMENTS = [
     Allowed("spec/header.rt", 1, "use std::alloc::Global;", "", "Nothing here takes an allocator."),
     Allowed("writer/resuming.rt", 1, "fmt<W: fmt::Write>(&self, f: &mut fmt::Formatter<W>)",
             "fmt(&self, f: &mut fmt::Formatter<'_>)", "A formatter of Rust has no type of where it writes."),
+    Allowed("writer/output.rt", 1, "Option<Vec<i16>>", "Option<()>", "Nothing here allocates."),
+    # The proofs take usize for 64 bits.
+    Allowed("slices/writing.rt", 1, "Ok((data_length as u32, end as usize))",
+            "Ok((data_length as u32, usize::try_from(end).map_err(|_| CallError::TooLong)?))",
+            "A file of 4 GiB."),
+    Allowed("slices/writing.rt", 1, "sizes_of(spec_ex, data_start as usize, samples)?",
+            "sizes_of(spec_ex, usize::try_from(data_start).map_err(|_| CallError::TooLong)?, samples)?",
+            "Data that begin after 4 GiB."),
+    Allowed("slices/searching.rt", 1, "Ok((length - length % frame) as usize)",
+            "usize::try_from(length - length % frame).map_err(|_| CallError::TooLong)", "A stream of 4 GiB."),
     # A value that is dropped is lent in Rust, and an io::Error isn't copied: one is moved out of where it was saved.
     Allowed("writer/write.rt", 1, "impl<W: Medium> Drop for WavWriter<W> {…}", "", "bindings/hound has its own."),
     Allowed("writer/write.rt", 2, "(no_sample, &self.fault)", "(no_sample, &mut self.fault)",
@@ -89,4 +101,29 @@ REPLACEMENTS = [
             " samples[i] = S::decode(&from[i * size..(i + 1) * size], fmt, width, bits);",
             "for (sample, container) in samples.iter_mut().zip(from.chunks_exact(size.max(1))) {"
             " *sample = S::decode(container, fmt, width, bits);", "It has no check, so that LLVM makes vectors of it."),
+]
+
+# The slices take the spec of Rust, where those of C take one of which `spec_from_c`, in spec.rt, makes such a spec. It
+# makes each whose samples have a byte, and the other ones each of these calls rejects before it does anything else.
+OF_RUST = [
+    Allowed("slices/*", 9, "spec: HoundSpec,", "spec_ex: WavSpecEx,", "The spec of Rust."),
+    Allowed("slices/*", 9, "let spec_ex = spec_from_c(spec);", "", "The spec of Rust."),
+    Allowed("slices/searching.rt", 1, "use crate::spec::{HoundSpec, spec_from_c};", "use hound_spec::WavSpecEx;",
+            "The spec of Rust."),
+    Allowed("slices/*", 3, "use crate::spec::{HoundSpec, spec_from_c};", "", "The spec of Rust."),
+]
+REPLACEMENTS += OF_RUST
+
+# The whole library as C has it, which erase.py --whole makes for bindings/tests/erased.py alone: all files of slices,
+# and hound_c, whose exports are functions there.
+WHOLE_CRATES = [*CRATES, "c"]
+WHOLE_LEFT_OUT = [name for name in LEFT_OUT if not name.startswith("slices/")]
+WHOLE_REPLACEMENTS = [entry for entry in REPLACEMENTS if entry not in OF_RUST] + [
+    Allowed("slices/spec.rt", 1, "spec.bits_per_sample.div_ceil(8)",
+            "(spec.bits_per_sample / 8 + u16::from(spec.bits_per_sample % 8 > 0))", "u16::div_ceil is of Rust 1.73."),
+    Allowed("slices/recording.rt", 1, "pub has_rest: u16,", "pub has_rest: u16, pub unused: u16,",
+            "C's struct has two bytes more, which the kit's compiler makes zeros."),
+    Allowed("slices/recording.rt", 1, "has_rest: if recorder.has_rest { 1 } else { 0 },",
+            "has_rest: if recorder.has_rest { 1 } else { 0 }, unused: 0,", "The rest of that."),
+    Allowed("c/lib.rt", 56, '#[unsafe(no_mangle)] pub extern "C" fn', "pub fn", "Rust has no slices in C."),
 ]

@@ -99,9 +99,9 @@ def kinds_of_files():
 
 
 NUMBERS = constants()
-# The enums of which no package may lack a name: the kinds of effects, without that of no effect, and how one ended; the
-# formats of samples; how a file was found; what a repairer does, and what a recorder may do.
-EFFECTS, REPORTS, FORMATS = names_from("NOTHING")[1:], names_from("PENDING"), names_from("INT")
+# The enums of which no package may lack a name: the kinds of effects, without that of no effect; the formats of
+# samples; how a file was found; what a repairer does, and what a recorder may do.
+EFFECTS, FORMATS = names_from("NOTHING")[1:], names_from("INT")
 STATES, MODES, ALLOWED = names_from("WHOLE"), names_from("FIND_DAMAGE"), names_from("MEND")
 ERRORS = errors()
 STRUCTS = structs()
@@ -154,35 +154,8 @@ def layout_c():
 # Rust
 
 
-def errors_rust():
-    long_form = '{name} = -{code},\n    "{first}\\\n     {second}";'
-    lines = lines_of_errors('{name} = -{code}, "{sentence}";', long_form, 4)
-    return [re.sub(r"^[A-Z0-9_]+(?= = )", lambda found: camel(found[0]), line) for line in lines]
-
-
-def type_rust(kind, count):
-    kind = f"u{BITS[kind]}" if kind in BITS else "machines::Effect" if kind == "hound_effect" else camel(kind[6:])
-    return f"[{kind}; {count}]" if count else kind
-
-
-def structs_rust():
-    lines = []
-    for kind, names in (
-        ("usize", ["EFFECT_BYTES", "HEADER_BYTES"]),
-        ("u16", ["NOTHING", *EFFECTS, *REPORTS, *FORMATS]),
-        ("u32", [*STATES, *MODES, *ALLOWED]),
-    ):
-        lines += [f"pub const {name}: {kind} = {NUMBERS[name]};" for name in names]
-    for name, (fields, size) in STRUCTS.items():
-        derived = {"spec": "Clone, Copy, Debug, Default", "effect": "Clone, Debug"}.get(name, "Clone, Debug, Default")
-        lines += ["", "#[repr(C)]", f"#[derive({derived})]", f"pub struct {camel(name)} {{"]
-        lines += [f"    pub {field}: {type_rust(kind, count)}," for field, kind, count, _ in fields]
-        lines += ["}", f"const _: () = assert!(size_of::<{camel(name)}>() == {size});"]
-    return lines
-
-
 def files_rust():
-    return [f'{number} => "{name}",' for number, name in FILES]
+    return wrapped([f'({number}, "{name}"),' for number, name in FILES], "", " ", 116)
 
 
 # Python
@@ -261,9 +234,7 @@ def codes_ts():
 # Each part that is made, by the words of the line before it.
 PARTS = [
     (HEADER, "The layout of the structs", layout_c),
-    ("bindings/rust/src/lib.rs", "The errors", errors_rust),
-    ("bindings/rust/src/lib.rs", "The constants and structs", structs_rust),
-    ("bindings/rust/src/lib.rs", "The names of kinds of files", files_rust),
+    ("bindings/hound/src/slices.rs", "The names of kinds of files", files_rust),
     ("bindings/python/hound_bindings/_library.py", "The errors", errors_python),
     ("bindings/python/hound_bindings/_library.py", "The constants and structs", structs_python),
     ("bindings/python/hound_bindings/_library.py", "The names of what files are", files_python),
@@ -278,14 +249,12 @@ PARTS = [
 USES = [
     ("bindings/c/hound_file.h", r"\bHOUND_{}\b", EFFECTS),
     ("bindings/c/board.c", r"\bHOUND_{}\b", EFFECTS),
-    ("bindings/rust/src", r"\bc::{}\b", [*EFFECTS, *FORMATS, *STATES, *MODES, *ALLOWED]),
     ("bindings/python/hound_bindings", r"\b_?{}\b", [*EFFECTS, *STATES, *MODES]),
     ("bindings/js", r"\b{}\b", [*EFFECTS, *FORMATS, *MODES, *ALLOWED]),
     ("bindings/js", r"\b{}: ", [name.strip('"') for name in states_js()]),
 ]
 # Where the version is, and the text that has it there.
 VERSIONS = [
-    ("bindings/rust/Cargo.toml", '\nversion = "{}"\n'),
     ("bindings/hound/Cargo.toml", '\nversion = "3.5.1+rattle.{}"\n'),
     ("bindings/hound/README.md", "names version 3.5.1+rattle.{}.\n"),
     ("bindings/python/pyproject.toml", '\nversion = "{}"\n'),
@@ -305,7 +274,6 @@ VERSION_NUMBER = (
 # Tables of the pairs of bits and bytes that are read and written, which have to be that of the specification.
 PAIRS = "crates/hound_spec/specs/Header.antt", r"^pairs \w+ = (.*)$"
 TABLES = [
-    ("bindings/rust/src/lib.rs", r"^ +\(Format::\w+, (.*)\) => Container"),
     ("bindings/python/hound_bindings/_library.py", r"^(?:INTEGERS|FLOATS) = (.*)$"),
     ("bindings/js/page/page.js", r"^const FORMS = (.*)$"),
     ("bindings/tests/repairs.py", r"^    pairs = (.*)$"),

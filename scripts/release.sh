@@ -1,6 +1,6 @@
 #!/usr/bin/env bash
 # Makes what is downloaded, in a new folder, of what is committed: the Python wheel of this processor and the sdist, the
-# npm package, the two crates, an archive for C, hound.html, and the sums of all. It makes each twice, and the sums have
+# npm package, the crate, an archive for C, hound.html, and the sums of all. It makes each twice, and the sums have
 # to be the same. Then it installs each in a fresh place without network, and runs the programs of docs/BINDINGS.md. The
 # folder is there only if all of that works; else the status is 1, and the last line names what failed.
 #   scripts/release.sh FOLDER    (needs a C compiler, CMake, pkg-config, Python with venv, a recent cargo, npm; no kit)
@@ -62,15 +62,10 @@ make_npm() { # OUT
     cd bindings/js
     npm pack --silent --pack-destination "$1"
 }
-make_crates() { # OUT
-    local crate
-    carry bindings/rust
-    rm bindings/rust/lib/*/*.so
+make_crate() { # OUT
     cp LICENSE bindings/hound
-    for crate in rust hound; do
-        cargo package -q --offline --no-verify --exclude-lockfile --target-dir target \
-            --manifest-path "bindings/$crate/Cargo.toml"
-    done
+    cargo package -q --offline --no-verify --exclude-lockfile --target-dir target \
+        --manifest-path bindings/hound/Cargo.toml
     cp target/package/*.crate "$1"
 }
 make_c() { # OUT
@@ -90,7 +85,7 @@ make_page() { # OUT
 make_all() { # FOLDER
     local part
     mkdir -p "$1/out"
-    for part in python npm crates c page; do
+    for part in python npm crate c page; do
         mkdir "$1/$part"
         git archive HEAD | tar --extract --directory "$1/$part"
         (cd "$1/$part"; "make_$part" "$1/out")
@@ -122,19 +117,16 @@ javascript_package() {
     cp "$work/page.js" page.mjs
     node page.mjs
 }
-# Both crates, unpacked, in the place of those of crates.io; a program of each.
-rust_crates() { # NAME
-    local crate
-    fresh "$1"
-    for crate in "$out"/*.crate; do tar -xzf "$crate"; done
-    export CARGO_HOME=$work/$1/home
+# The crate, unpacked, in the place of that of crates.io; the page's program, and one that was written for hound.
+rust_crate() {
+    fresh rust_crate
+    tar -xzf "$out"/*.crate
+    export CARGO_HOME=$PWD/home
     cargo new -q --vcs none user
     cat >> user/Cargo.toml << END
 hound = "3.5.1"
-hound_bindings = "$version"
 [patch.crates-io]
 hound = { path = "../$(echo hound-3*)" }
-hound_bindings = { path = "../hound_bindings-$version" }
 END
     mkdir user/src/bin
     cp "$work/page.rust" user/src/bin/page.rs
@@ -201,8 +193,7 @@ step "pip installs the wheel, and the Python program runs" python_package wheel 
 step "the same of the sdist" python_package sdist "$sdist"
 HOUND_C_SOURCE=1 step "the same of the sdist, over hound_c.c" python_package sdist_by_source "$sdist"
 step "npm installs its package, and the JavaScript program runs" javascript_package
-step "cargo builds both crates, and the Rust program and one that was written for hound run" rust_crates crates
-HOUND_C_SOURCE=1 step "the same of the crates, over hound_c.c" rust_crates crates_by_source
+step "cargo builds the crate, and the Rust program and one that was written for hound run" rust_crate
 step "the archive for C is installed, and the C program runs" c_installed c_installed
 HOUND_C_SOURCE=1 step "the same of the archive for C, over hound_c.c" c_installed c_by_source
 step "one line builds each program in C" c_by_a_line

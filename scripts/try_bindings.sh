@@ -55,7 +55,7 @@ on_arm() {
 
 proved() {
     cd bindings/lib && sha256sum --check --strict PROVED && [ "$(find . ../c/hound_c.c -type f ! -name PROVED \
-        | wc -l)" = "$(grep -vc '^#' PROVED)" ] && cmp ../c/hound_c.c ../rust/hound_c.c
+        | wc -l)" = "$(grep -vc '^#' PROVED)" ]
 }
 symbols() { # NM
     local words wanted
@@ -145,7 +145,7 @@ header_of_cpp() {
 source_of_cpp() {
     local standard
     for standard in c++11 c++20; do
-        c++ -O1 -Wall -Wextra -Werror "-std=$standard" -x c++ -c bindings/rust/hound_c.c -o "$work/cpp.o" \
+        c++ -O1 -Wall -Wextra -Werror "-std=$standard" -x c++ -c bindings/c/hound_c.c -o "$work/cpp.o" \
             && "$cc" $strict bindings/tests/calls.c "$work/cpp.o" -o "$work/cpp" && "$work/cpp" || return 1
     done
 }
@@ -167,25 +167,7 @@ no_library() {
     one_line() { [ "$(grep -c "none/libhound_c.a isn't there" "$work/said")" = 1 ]; }
     ! bindings/c/install.sh "$work/nowhere" 2> "$work/said" && one_line || return 1
     ! python3 -c "import sys; sys.path.insert(0, 'bindings/python'); import backend; backend.shared_library('$work')" \
-        2> "$work/said" && one_line || return 1
-    ! command -v cargo > /dev/null \
-        || { ! cargo build -q --offline --manifest-path bindings/rust/Cargo.toml --target-dir "$work/none" 2> \
-            "$work/said" && one_line && grep -q 'set HOUND_C_LIB to the absolute path of the folder that holds it' \
-            "$work/said"; }
-}
-# What HOUND_C_LIB names has another version, or none.
-other_version() {
-    local text words="--offline --manifest-path bindings/rust/Cargo.toml --target-dir $work/target.other"
-    export HOUND_C_LIB=$work/other
-    mkdir "$HOUND_C_LIB"
-    for text in 'int hound_version(void) { return 1; }' 'int other;'; do
-        echo "$text" > "$work/other.c" && "$cc" -c "$work/other.c" -o "$work/other.o" \
-            && ar crs "$HOUND_C_LIB/libhound_c.a" "$work/other.o" \
-            && ! cargo build -q $words 2> "$work/said" \
-                && grep -q 'has no library of version [0-9.]*: set HOUND_C_LIB to the folder of one' "$work/said" \
-                && rm "$HOUND_C_LIB/libhound_c.a" || return 1
-    done
-    HOUND_C_LIB=$(dirname "$library") cargo build -q $words
+        2> "$work/said" && one_line
 }
 by_source() { HOUND_C_SOURCE=1 installed "$work/source" && page c > "$work/page.c" \
     && "$cc" $strict "$work/page.c" bindings/c/hound_c.c -o "$work/page" && cd "$work" && ./page; }
@@ -202,16 +184,13 @@ has_flags() { grep -q '^flags.*popcnt' /proc/cpuinfo && lacking none true 2> /de
 quick_compiler() { printf '#!/bin/sh\nexec %s "$@" -O0\n' "$cc" > "$work/quick" && chmod +x "$work/quick"; }
 # Without a compiler only the library that is carried can be installed. An emulated processor runs the other one alone.
 old_processor() {
-    local flag words="--offline --manifest-path bindings/rust/Cargo.toml --target-dir $work/target.lacking"
+    local flag
     CC=none lacking none bindings/c/install.sh "$work/lacking" || return 1
     for flag in cx16 lahf_lm popcnt sse4_1 sse4_2 ssse3; do
         ! CC=none lacking $flag bindings/c/install.sh "$work/lacking" || return 1
-        ! command -v cargo > /dev/null || ! CC=none lacking $flag cargo build -q $words || return 1
     done
     quick_compiler && CC=$work/quick lacking ssse3 bindings/c/install.sh "$work/lacking" \
         && "$cc" $strict bindings/tests/calls.c "$work/lacking/lib/libhound_c.a" -o "$work/lacking/calls" || return 1
-    ! command -v cargo > /dev/null || { CC=$work/quick lacking ssse3 cargo build -q $words \
-        && [ -e "$work"/target.lacking/debug/build/hound_bindings-*/out/libhound_c.a ]; } || return 1
     ! command -v qemu-x86_64 > /dev/null || qemu-x86_64 -cpu core2duo "$work/lacking/calls"
 }
 takes_version() { # PREFIX VERSION
@@ -241,8 +220,6 @@ by_cmake() {
     done
 }
 python_by_source() { HOUND_C_LIBRARY=$work/source/lib/libhound_c.so python_tests files floats; }
-cargo_by_source() { HOUND_C_SOURCE=1 cargo test -q --tests --offline --manifest-path bindings/rust/Cargo.toml \
-    --target-dir "$work/target.source"; }
 # The modules of the Cargo package hound are the proved text, and a copy with another word isn't.
 erased() {
     scripts/erase.py --check && scripts/check_erased.py && cp -r bindings/hound/src/proved "$work/proved" \
@@ -275,7 +252,7 @@ page_of_python() {
 page_of_rust() {
     export CARGO_HOME=$work/cargo
     cargo new -q --vcs none "$work/user" && page rust > "$work/user/src/main.rs" && cd "$work/user" \
-        && $offline cargo add -q --git "file://$top" hound_bindings && $offline cargo run -q
+        && $offline cargo add -q --git "file://$top" hound && $offline cargo run -q
 }
 python_installed() {
     [ ! -e "${library%a}so" ] || export CC=none # and no compiler
@@ -296,8 +273,7 @@ parts() { "$python" bindings/tests/parts.py 3 short; }
 examples() { local name; for name in cat record repair; do "$cc" $strict "bindings/c/$name.c" "$library" -o \
     "$work/$name" || return 1; done; }
 rows() { "$python" bindings/tests/rows.py "$work/cat" "$work/record"; }
-cargo_tests() { cargo test -q --offline --manifest-path "bindings/$1/Cargo.toml" --target-dir "$work/target";
-    } # rust or hound
+cargo_tests() { cargo test -q --offline --manifest-path bindings/hound/Cargo.toml --target-dir "$work/target"; }
 # The first cargo that builds for a target.
 cargo_of() { # TARGET WHAT
     local cargo
@@ -308,28 +284,70 @@ cargo_of() { # TARGET WHAT
     echo "bindings: passed over, since a cargo that builds for $1 isn't here: $2" >&2
     return 1
 }
-# A program over the Cargo package hound answers the same where usize has 32 bits.
+# Where usize has 32 bits the machines and slices of the Cargo package hound do what their tests say, and a program over
+# its readers and writers answers the same as here.
 cargo_in_32_bits() { # CARGO
-    export RUSTC=${1%cargo}rustc
-    "$1" new -q --vcs none "$work/narrow" && cp bindings/tests/narrow.rs "$work/narrow/src/main.rs" \
+    export RUSTC=${1%cargo}rustc CARGO_TARGET_WASM32_WASI_RUNNER="node --no-warnings $work/wasi.mjs"
+    cat > "$work/wasi.mjs" << 'END'
+import { readFile } from "node:fs/promises";
+import { WASI } from "node:wasi";
+const wasi = new WASI({ version: "preview1", returnOnExit: true });
+const imports = { wasi_snapshot_preview1: wasi.wasiImport };
+const { instance } = await WebAssembly.instantiate(await readFile(process.argv[2]), imports);
+process.exitCode = wasi.start(instance);
+END
+    "$1" test -q --offline --target wasm32-wasi --test machines --test slices --target-dir "$work/target.wasi" \
+        --manifest-path bindings/hound/Cargo.toml \
+        && "$1" new -q --vcs none "$work/narrow" && cp bindings/tests/narrow.rs "$work/narrow/src/main.rs" \
         && printf 'hound = { path = "%s/bindings/hound" }\n' "$top" >> "$work/narrow/Cargo.toml" \
         && cd "$work/narrow" && "$1" run -q --offline > native \
-        && "$1" build -q --offline --target wasm32-wasi || return 1
-    node --no-warnings --input-type=module -e \
-        'import { readFile } from "node:fs/promises"; import { WASI } from "node:wasi"; const wasi = new WASI({ version: "preview1" }); const { instance } = await WebAssembly.instantiate(await readFile("target/wasm32-wasi/debug/narrow.wasm"), { wasi_snapshot_preview1: wasi.wasiImport }); wasi.start(instance);' > narrow \
-        && cmp native narrow
+        && "$1" run -q --offline --target wasm32-wasi > narrow && cmp native narrow
+}
+cargo_for() { # CARGO TARGET
+    local words="--offline --target $2 --manifest-path bindings/hound/Cargo.toml --target-dir $work/target.reach"
+    export RUSTC=${1%cargo}rustc
+    "$1" build -q $words && "$1" build -q --no-default-features $words
+}
+# A program over the machines and slices alone, which has no std.
+program_without_std() {
+    mkdir -p "$work/nostd/src" && cp bindings/tests/nostd.rs "$work/nostd/src/lib.rs" && cd "$work/nostd" || return 1
+    cat > Cargo.toml << END
+[package]
+name = "nostd"
+version = "0.1.0"
+edition = "2021"
+rust-version = "1.63"
+[lib]
+crate-type = ["staticlib", "cdylib"]
+[dependencies]
+hound = { path = "$top/bindings/hound", default-features = false }
+[profile.release]
+panic = "abort"
+lto = true
+overflow-checks = true
+debug-assertions = true
+END
+    printf '#include <stdint.h>\n#include <stdio.h>\nuint64_t hound_answer(void);\nint main(void) { return printf("%%016llx\\n", (unsigned long long)hound_answer()) != 17; }\n' > main.c
+    cargo build -q --offline --release && "$cc" main.c target/release/libnostd.a -o main && timeout 60 ./main > here
+}
+cargo_without_std() {
+    cargo test -q --offline --no-default-features --target-dir "$work/target" \
+        --manifest-path bindings/hound/Cargo.toml && program_without_std
+}
+# The same answer in WebAssembly.
+wasm_without_std() { # CARGO
+    cd "$work/nostd" && RUSTC=${1%cargo}rustc "$1" build -q --offline --release --target wasm32-unknown-unknown \
+        && timeout 60 node --input-type=module -e \
+            'import { readFile } from "node:fs/promises"; const { instance } = await WebAssembly.instantiate(await readFile(process.argv[1])); console.log(BigInt.asUintN(64, instance.exports.hound_answer()).toString(16).padStart(16, "0"));' \
+            target/wasm32-unknown-unknown/release/nostd.wasm > there && cmp here there
 }
 # Wine ends programs that trace a panic, as Rust does of one within another.
 cargo_on_windows() { # CARGO
-    local crate cargo=$1
-    export RUSTC=${cargo%cargo}rustc RUST_BACKTRACE=0 WINEDEBUG=-all WINEPREFIX=$work/wine
+    export RUSTC=${1%cargo}rustc RUST_BACKTRACE=0 WINEDEBUG=-all WINEPREFIX=$work/wine
     export CARGO_TARGET_X86_64_PC_WINDOWS_GNU_LINKER=x86_64-w64-mingw32-gcc \
         CARGO_TARGET_X86_64_PC_WINDOWS_GNU_RUNNER=wine
-    for crate in rust hound; do
-        "$cargo" test -q --offline --target x86_64-pc-windows-gnu --tests --manifest-path "bindings/$crate/Cargo.toml" \
-            --target-dir "$work/target.windows" \
-            -- --skip a_medium_that_panics_always_ends_no_program || return 1
-    done
+    "$1" test -q --offline --target x86_64-pc-windows-gnu --tests --manifest-path bindings/hound/Cargo.toml \
+        --target-dir "$work/target.windows" -- --skip a_medium_that_panics_always_ends_no_program
 }
 user_of_hound() { # a program written for hound
     export CARGO_HOME=$work/cargo
@@ -394,6 +412,21 @@ answers() {
 }
 node_package() { node bindings/tests/package.mjs < "$work/requests"; }
 same_answers() { "$@" < "$work/requests" | cmp - "$work/answers"; }
+# The whole library of the proved text without its contracts, built by cargo with overflow checks, does what the other
+# one does, and its wrong versions don't.
+erased_library() {
+    local wrong
+    bindings/tests/erased.py "$work/erased" && library=$work/erased/libhound_c.a || return 1
+    user calls -- && user hostile 20000 -- && user disk 30000 -- && same_answers user answer -- && examples \
+        && HOUND_C_LIBRARY=$work/erased/libhound_c.so PYTHONPATH=bindings/python python3 bindings/tests/rows.py \
+            "$work/cat" "$work/record" || return 1
+    bindings/tests/erased.py --wrong > "$work/faults" && [ "$(wc -l < "$work/faults")" -ge 5 ] || return 1
+    while IFS= read -r wrong; do
+        rm -rf "$work/erased.wrong" && bindings/tests/erased.py "$work/erased.wrong" "$wrong" || return 1
+        library=$work/erased.wrong/libhound_c.a
+        ! same_answers user answer -- || { echo "no answer is another one with: $wrong"; return 1; }
+    done < "$work/faults"
+}
 takes_wasm64() { node "$@" -e \
     'process.exit(WebAssembly.validate(new Uint8Array([0, 97, 115, 109, 1, 0, 0, 0, 5, 3, 1, 4, 1])) ? 0 : 1)' > \
     /dev/null 2>&1; }
@@ -457,7 +490,7 @@ if has python3 "the Python package" && has "$cc" "the Python package"; then
         check "the tests with what Python has on Windows, and what pip builds on other systems" python_systems
         has strace "killed Python programs, and failing calls of theirs" \
             && check "killed Python programs, and failing calls of theirs" python_faults
-        check "killed recordings in parts, by hound-wav, Python, C and Node" parts
+        check "killed recordings in parts, by hound-wav, Python, C, Node and Cargo" parts
         check "files of hound_rows, cut files and each code, beside the model, through cat.c and by record.c" rows
         check "the Python program of docs/BINDINGS.md" page_of_python
     else
@@ -472,25 +505,33 @@ if has python3 "the Python package" && has "$cc" "the Python package"; then
     has strace "repair_file" && has cargo "repair_file" \
         && check "the same by repair_file of the Cargo package hound" with_package bindings/tests/repairs.py cargo short
 fi
-if has cargo "the Cargo crate"; then
-    check "the tests of the Cargo crate" cargo_tests rust
-    check "the tests of the Cargo package hound" cargo_tests hound
+if has cargo "the Cargo package hound"; then
+    check "the tests of the Cargo package hound" cargo_tests
     check "Cargo packages and documents it" cargo_packaged
     has rustfmt "the modules of the Cargo package hound" \
         && check "the modules of the Cargo package hound are the proved text without its contracts" erased
-    check "Cargo rejects a library of another version" other_version
-    check "the tests of the Cargo crate over hound_c.c, which its build compiles" cargo_by_source
-    if has wine "the Cargo crates on Windows" && has x86_64-w64-mingw32-gcc "the Cargo crates on Windows" \
-        && cargo=$(cargo_of x86_64-pc-windows-gnu "the Cargo crates on Windows (Debian: libstd-rust-dev-windows)"); then
-        check "the tests of both Cargo crates on Windows" cargo_on_windows "$cargo"
+    if has wine "hound on Windows" && has x86_64-w64-mingw32-gcc "hound on Windows" \
+        && cargo=$(cargo_of x86_64-pc-windows-gnu "hound on Windows (Debian: libstd-rust-dev-windows)"); then
+        check "the tests of the Cargo package hound on Windows" cargo_on_windows "$cargo"
     fi
     if has node "hound in 32 bits" \
         && cargo=$(cargo_of wasm32-wasi "hound in 32 bits (Debian: libstd-rust-dev-wasm32)"); then
-        check "a program over the Cargo package hound, where usize has 32 bits" cargo_in_32_bits "$cargo"
+        check "a program over the Cargo package hound, and its machines and slices, where usize has 32 bits" \
+            cargo_in_32_bits "$cargo"
+    fi
+    for target in wasm32-unknown-unknown wasm32-wasi x86_64-pc-windows-gnu; do
+        ! cargo=$(cargo_of $target "hound for it (Debian: libstd-rust-dev-wasm32, libstd-rust-dev-windows)") \
+            || check "the Cargo package hound is built for $target, with std and without" cargo_for "$cargo" $target
+    done
+    if has "$cc" "hound without std"; then
+        check "the machines and slices of the Cargo package hound without std" cargo_without_std
+        has node "hound without std in WebAssembly" \
+            && cargo=$(cargo_of wasm32-unknown-unknown "hound without std in WebAssembly") \
+            && check "they answer the same in WebAssembly, where usize has 32 bits" wasm_without_std "$cargo"
     fi
     check "a program written for hound, which adds that package from a clone" user_of_hound
     check "the same after cargo vendor" vendored
-    check "the Rust program of docs/BINDINGS.md, which adds the crate from a clone" page_of_rust
+    check "the Rust program of docs/BINDINGS.md, which adds it from a clone" page_of_rust
 fi
 has python3 "that hound.html is made" \
     && check "hound.html is what its script makes of the package and the module" bindings/js/page/make.py --check
@@ -514,6 +555,9 @@ else
 fi
 if has python3 "the libraries of other processors" && has "$cc" "the libraries of other processors"; then
     check "each code among the answers to requests.py" answers
+    has cargo "the library of the proved text" && has rustfmt "the library of the proved text" \
+        && check "the whole proved text without its contracts, by cargo, does what the library does, and answers the same" \
+            erased_library
     if has aarch64-linux-gnu-gcc "ARM (Debian: gcc-aarch64-linux-gnu)" && has qemu-aarch64 "ARM (Debian: qemu-user)" \
         && has_libc_of_arm; then
         check "the symbols of the library for ARM" on_arm symbols aarch64-linux-gnu-nm

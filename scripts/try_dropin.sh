@@ -91,22 +91,19 @@ histories() { "$CARGO_TARGET_DIR/release/histories" "$1"; }
 faults() { "$CARGO_TARGET_DIR/release/faults"; }
 speed() { programs "$PWD/bindings/hound" speed && "$CARGO_TARGET_DIR/release/speed" 15 --instructions "$word"; }
 
-# The programs, and the own tests of both packages, over the packages as they are, which all pass, and over wrong
-# versions.
+# The programs, and the own tests of the package, over the package as it is, which all pass, and over wrong versions.
 wrong() {
     local what file old new found missed=0
     while IFS=$'\t' read -r what file old new; do
-        rm -rf "$work/wrong" && mkdir "$work/wrong" && cp -r bindings/{hound,rust} "$work/wrong" \
-            && rm -rf "$work"/wrong/*/target
-        ln -s "$PWD"/bindings/{c,lib} "$work/wrong"
-        [ -z "$file" ] || python3 - "$work"/wrong/*/src/"$file" "$old" "$new" <<'PYTHON' || return 1
+        rm -rf "$work/wrong" && cp -r bindings/hound "$work/wrong" && rm -rf "$work/wrong/target"
+        [ -z "$file" ] || python3 - "$work/wrong/src/$file" "$old" "$new" <<'PYTHON' || return 1
 import re, sys
 path, old, new = sys.argv[1:]
 text, count = re.subn(r"\s+".join(map(re.escape, old.split())), lambda _: new, open(path).read())
 open(path, "w").write(text)
 sys.exit(count != 1 and f"wrong: {path} has {count} times: {old}")
 PYTHON
-        (cd "$work/wrong/hound" && cargo build -q --offline 2> "$work/log") || { cat "$work/log"; return 1; }
+        (cd "$work/wrong" && cargo build -q --offline 2> "$work/log") || { cat "$work/log"; return 1; }
         found=$(first_failure)
         echo "wrong: $what: found by ${found:-nothing}"
         [ "${file:+wrong}" = "${found:+wrong}" ] || missed=1
@@ -116,13 +113,12 @@ PYTHON
 first_failure() {
     local part
     for part in own_tests faults "histories 30000" "exact 9000"; do
-        { [ "$part" = own_tests ] || programs "$work/wrong/hound" "${part% *}"; } \
+        { [ "$part" = own_tests ] || programs "$work/wrong" "${part% *}"; } \
             && timeout 300 bash -c "$(declare -f exact histories faults own_tests) && $part" > "$work/log" 2>&1 \
                 || { echo "${part% *}" && return; }
     done
 }
-own_tests() { (cd "$work/wrong/rust" && cargo test -q --offline --test files && cd ../hound \
-    && cargo test -q --offline --tests); }
+own_tests() { (cd "$work/wrong" && cargo test -q --offline --tests); }
 
 # Programs written for hound in a package of their own, which depends on the published crate by a registry, here a
 # folder; the one change is the patch. Then they do the same, and write the same files but for the pad byte.

@@ -45,7 +45,7 @@ by_pip_of_env() {
 by_pipx() { as_written "$readme" "pipx install CLONE/bindings/python" && "$work/bin/hound-wav" --version; }
 by_cargo_add() {
     cargo init -q --vcs none --name user \
-        && as_written "$manual" "cargo add --git file://CLONE hound_bindings" \
+        && as_written "$manual" "cargo add --git file://CLONE hound" \
         && page rust "$manual" > src/main.rs && $offline cargo run -q
 }
 # The published hound is neither here nor reached, so the clone has to be in its place. Cargo fetched that for the check
@@ -119,8 +119,8 @@ if has python3 "pip and pipx"; then
     fi
     has pipx "hound-wav by pipx" && install "pipx installs hound-wav" by_pipx
 fi
-if has cargo "the Rust crates"; then
-    install "cargo add takes hound_bindings" by_cargo_add
+if has cargo "the Rust crate"; then
+    install "cargo add takes hound from the clone" by_cargo_add
     install "a patch replaces the published hound, also where Cargo.lock names it" by_patch
 fi
 if has cc "the library in C"; then

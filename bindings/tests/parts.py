@@ -1,13 +1,13 @@
 #!/usr/bin/env python3
 """Kills recorders that continue in a next file, and looks at all their files: after a repair of the last two every
 sample that was flushed, or whose write had returned, is there, in order, once. The recorders are `hound-wav record`, a
-program with the Python package, one with the JavaScript package, and record.c. Of the last one each call of the system
-fails, too, and each one kills it; and what a loss of power may leave is built from the calls of durable recorders. One
-that starts by itself again after each kill, `hound-wav record --append`, is rejected by nothing. The files are read
-here by hand.
+program with the Python package, one with the JavaScript package, one with the Cargo package hound, which buffers what
+isn't flushed, and record.c. Of the last one each call of the system fails, too, and each one kills it; and what a loss
+of power may leave is built from the calls of durable recorders. One that starts by itself again after each kill,
+`hound-wav record --append`, is rejected by nothing. The files are read here by hand.
 
 usage: parts.py [KILLS [short]]     (of each recorder, 200 where no number is given; short: without failing calls and
-losses of power. It needs cc, and node and strace, or says so)"""
+losses of power. It needs cc, and node, cargo and strace, or says so)"""
 import itertools
 import os
 import random
@@ -66,6 +66,34 @@ for (let done = 0, turn = 0; done < {FRAMES}; turn++) {{
   if (turn % 3 === 0) await recorder.flush();
 }}
 await recorder.close();
+"""
+IN_RUST = f"""
+use hound::parts::PartsWriter;
+use std::io::Read;
+fn main() -> hound::Result<()> {{
+    let (mut words, mut data, sizes) = (std::env::args().skip(1), Vec::new(), {SIZES});
+    let (path, is_durable) = (words.next().unwrap(), words.next().is_some());
+    std::io::stdin().read_to_end(&mut data)?;
+    let sample_format = hound::SampleFormat::Int;
+    let spec = hound::WavSpec {{ channels: {CHANNELS}, sample_rate: 48000, bits_per_sample: {BITS}, sample_format }};
+    let create = if is_durable {{ PartsWriter::create_durable }} else {{ PartsWriter::create }};
+    let (mut writer, mut done) = (create(path, spec, {PART})?, 0);
+    for turn in 0.. {{
+        let count = sizes[turn % sizes.len()].min(data.len() / {FRAME} - done);
+        if count == 0 {{
+            break;
+        }}
+        let containers = data[{FRAME} * done..][..{FRAME} * count].chunks(3);
+        let samples = containers.map(|bytes| i32::from_le_bytes([0, bytes[0], bytes[1], bytes[2]]) >> 8);
+        writer.write_samples(&samples.collect::<Vec<_>>())?;
+        done += count;
+        if turn % 3 == 0 {{
+            writer.flush()?;
+            println!("written {{done}}");
+        }}
+    }}
+    writer.finalize()
+}}
 """
 # With what the file of a recorder begins, by the specification, and what it may have left.
 HEAD = b"RIFF\0\0\0\0WAVEfmt " + struct.pack(
@@ -141,6 +169,10 @@ class Recorders:
             self.kinds["the JavaScript package"] = self.by_program("node", "program.mjs", IN_NODE)
         else:
             print("parts: passed over, since node isn't here: the JavaScript package")
+        if shutil.which("cargo"):
+            self.kinds["the Cargo package"] = self.by_cargo()
+        else:
+            print("parts: passed over, since cargo isn't here: the Cargo package")
 
     def compiled(self, name, *change):
         """A program of bindings/c, in which a part is changed."""
@@ -150,6 +182,18 @@ class Recorders:
     def by_command(self, path):
         words = ["record", path, "--rate", SHAPE[0], "--channels", SHAPE[1], "--bits", SHAPE[2]]
         return [sys.executable, "-m", "hound_bindings", *words, "--split", str(PART), "--checkpoint", "0.01"]
+
+    def by_cargo(self):
+        crate = os.path.join(self.folder, "recorder")
+        os.makedirs(os.path.join(crate, "src"))
+        with open(os.path.join(crate, "src", "main.rs"), "w") as file:
+            file.write(IN_RUST)
+        with open(os.path.join(crate, "Cargo.toml"), "w") as file:
+            file.write('[package]\nname = "recorder"\nversion = "0.1.0"\nedition = "2021"\n')
+            file.write(f'[dependencies]\nhound = {{ path = "{TOP}/bindings/hound" }}\n')
+        words = ["cargo", "build", "-q", "--offline", "--target-dir", os.path.join(crate, "target")]
+        subprocess.run(words, cwd=crate, check=True)
+        return lambda path: [os.path.join(crate, "target", "debug", "recorder"), path]
 
     @staticmethod
     def by(record):
@@ -341,8 +385,9 @@ def calls_of(words, path, given, log):
     tracing = ["strace", "-f", "-qq", "-y", "-xx", "-s", "1000000", "-o", log]
     tracing += [word for name in [*traced, os.path.dirname(path), output] for word in ("-P", name)]
     with open(output, "wb") as file:
-        tracing += ["-e", "trace=openat,write,pwrite64,ftruncate,fsync"]
+        tracing += ["-e", "trace=openat,lseek,write,pwrite64,ftruncate,fsync,fdatasync"]
         subprocess.run([*tracing, *words], input=given, stdout=file, check=True)
+    places = {}  # where a `write` comes to
     with open(log) as file:
         for line in file:
             line = line.split(" ", 1)[1].strip()  # after the process
@@ -350,10 +395,17 @@ def calls_of(words, path, given, log):
                 continue  # as where it looks whether the second file is there
             strings = [bytes.fromhex(one.replace("\\x", "")) for one in re.findall(r'[<"]((?:\\x\w\w)*)[>"]', line)]
             name, place = line.split("(")[0], re.search(r", (\d+)\) += ", line)
+            on, result = strings[-1 if name == "openat" else 0].decode(), int(re.search(r" = (\d+)", line)[1])
             if name == "openat":
-                yield name, strings[-1].decode(), 0, b""
+                places[on] = 0
+                yield name, on, 0, b""
+            elif name == "lseek":
+                places[on] = result
+            elif name == "write" and on != output:
+                places[on] += result
+                yield "pwrite64", on, places[on] - result, strings[1][:result]
             else:
-                yield name, strings[0].decode(), int(place[1]) if place else 0, b"".join(strings[1:2])
+                yield name.replace("data", ""), on, int(place[1]) if place else 0, b"".join(strings[1:2])
 
 
 def lost(recorders, words_for, what, is_wrong, before=None):
@@ -395,14 +447,16 @@ def losses(recorders):
     if not shutil.which("strace"):
         return print("parts: passed over, since strace isn't here: losses of power")
     for what, words_for in recorders.kinds.items():
-        if what in ("record.c", "the Python package"):
-            durable = {"record.c": "--durable", "the Python package": "durable"}[what]
+        if what in ("record.c", "the Python package", "the Cargo package"):
+            durable = "--durable" if what == "record.c" else "durable"
             lost(recorders, lambda path: [*words_for(path), durable], what, False)
     words_for = recorders.by_program(sys.executable, "continued.py", CONTINUED)
     for found, before in FOUND.items():
         lost(recorders, lambda path: [*words_for(path), "durable"], f"resume of Python after {found}", False, before)
         lost(recorders, words_for, f"resume that syncs nothing after {found}", True, before)
-    lost(recorders, recorders.kinds["record.c"], "record.c that syncs nothing", True)
+    for what in ("record.c", "the Cargo package"):
+        if what in recorders.kinds:
+            lost(recorders, recorders.kinds[what], f"{what} that syncs nothing", True)
     for what, change in WRONG_DURABLE.items():
         words_for = recorders.by(recorders.compiled("record", *change))
         lost(recorders, lambda path: [*words_for(path), "--durable"], what, True)

@@ -28,10 +28,10 @@ fn is_at(_: &fs::File, _: &path::Path) -> io::Result<bool> {
     Ok(true)
 }
 
-/// Locks a file that is open until it is closed, without waiting: where another program has locked it, or this one has
-/// opened and locked it before, the error is `WouldBlock`. A file system without locks is no error, and neither is
-/// another system than Unix and Windows.
-fn lock(file: &fs::File) -> io::Result<()> {
+/// Locks an open file until it is closed, without waiting (own): where another program has locked it, or this one has
+/// opened and locked it before, the error is `WouldBlock`; on Windows also where it has locked the same `File`. A file
+/// system without locks is no error, and neither is another system than Unix and Windows.
+pub fn lock(file: &fs::File) -> io::Result<()> {
     match lock_by_system(file) {
         Err(error) if error.kind() == io::ErrorKind::WouldBlock => {
             Err(io::Error::new(error.kind(), "another program records to, appends to or repairs this file"))

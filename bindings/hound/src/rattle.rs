@@ -3,27 +3,32 @@
 /// A type that contracts alone look at.
 pub struct Brand;
 
-/// `f64::round_ties_even`, of Rust 1.77.
+/// `f64::round_ties_even`, of Rust 1.77. What `f64::abs` and `copysign` do is in `std` alone.
 pub fn round_ties_even(number: f64) -> f64 {
-    let exact = 4503599627370496.0; // 2^52, from which on each float is an integer.
-    if number.abs() < exact {
-        ((number.abs() + exact) - exact).copysign(number)
+    const SIGN: u64 = 1 << 63;
+    let (exact, size) = (4503599627370496.0, f64::from_bits(number.to_bits() & !SIGN));
+    if size < exact {
+        // From 2^52 on each float is an integer.
+        f64::from_bits(((size + exact) - exact).to_bits() | number.to_bits() & SIGN)
     } else {
         number
     }
 }
 
-#[inline(always)]
-pub fn f32_to_f64_with_nan(number: f32) -> f64 {
-    f64::from(number)
+macro_rules! casts {
+    ($($name:ident: $from:ty => $to:ty;)*) => {
+        $(
+            #[inline(always)]
+            pub fn $name(number: $from) -> $to {
+                number as $to
+            }
+        )*
+    };
 }
-
-#[inline(always)]
-pub fn nearest_u32_to_f32(number: u32) -> f32 {
-    number as f32
-}
-
-#[inline(always)]
-pub fn saturating_f64_to_i64(number: f64) -> i64 {
-    number as i64
+casts! {
+    f32_to_f64_with_nan: f32 => f64;
+    nearest_f64_to_f32_with_nan: f64 => f32;
+    nearest_u32_to_f32: u32 => f32;
+    nearest_u64_to_f64: u64 => f64;
+    saturating_f64_to_i64: f64 => i64;
 }

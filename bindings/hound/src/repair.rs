@@ -1,9 +1,7 @@
 use crate::lock::open_locked;
+use crate::machines::{FoundFile, RepairState, Task};
 use crate::medium::{Input, Output, SyncBy};
 use crate::proved::repair::mend::{look_by_parts, perform_all};
-pub use crate::proved::repair::RepairState;
-use crate::proved::repair::Task;
-use crate::proved::writer::FoundFile;
 use crate::{Error, Result, WavSpecEx};
 use std::io::{self, Seek};
 use std::{fs, path};
@@ -80,14 +78,5 @@ fn repair_in(task: Task, mut file: &fs::File) -> Result<Repair> {
 /// A file that is to be appended to, as a look finds it.
 pub(crate) fn find(mut file: &fs::File) -> Result<FoundFile> {
     let length = file.seek(io::SeekFrom::End(0))?;
-    let damage = look_by_parts(&mut Input(file), Task::FindDamage)?;
-    let (head, found) = (damage.head, damage.repair());
-    Ok(FoundFile {
-        spec_ex: found.spec_ex,
-        data_start: head.data_start,
-        data_length: head.data_length,
-        length,
-        frames: found.frames,
-        state: found.state,
-    })
+    Ok(look_by_parts(&mut Input(file), Task::FindDamage)?.in_file(length))
 }

@@ -1,8 +1,11 @@
 //! Each public item, as programs of hound use it.
+#![cfg(feature = "std")]
 mod common;
 
 use common::{numbers, write_by, written, Inverse, Path, MONO, WAYS};
 use hound::blocks::{ReadSamples, WriteSamples};
+use hound::machines::{Cause, FailedAction, Reason, RecorderError, RepairError, Unrepairable};
+use hound::slices::CallError;
 use hound::{Error, Result, Sample, SampleFormat, WavReader, WavSpec, WavSpecEx, WavWriter};
 use std::cell::{RefCell, RefMut};
 use std::io::{self, Cursor, Read, Seek, SeekFrom, Write};
@@ -152,8 +155,9 @@ fn floats_are_scaled_where_a_file_has_integers() {
         assert!(out[1..5002] == floats[1..]);
         assert!(matches!(reader.read_scaled(&mut out), (count, Err(Error::IoError(_))) if count < 2));
     }
-    // Floats have no other scale, and any pattern, as that of a NaN that signals.
-    let (mut file, patterns) = (Cursor::new(Vec::new()), [2.5, f32::from_bits(0x7f81_2345)]);
+    // Floats have no other scale, and any pattern, as that of a NaN that signals (but through the x87 of i686).
+    let nan = if cfg!(target_arch = "x86") { 0x7fc1_2345 } else { 0x7f81_2345 };
+    let (mut file, patterns) = (Cursor::new(Vec::new()), [2.5, f32::from_bits(nan)]);
     let mut writer = WavWriter::new(&mut file, FLOATS).unwrap();
     assert_eq!(writer.write_scaled(&patterns).unwrap(), 0);
     writer.finalize().unwrap();
@@ -161,9 +165,9 @@ fn floats_are_scaled_where_a_file_has_integers() {
     let mut out = [0.0; 3];
     let mut reader = WavReader::new(file).unwrap();
     assert!(matches!(reader.read_scaled(&mut out), (2, Ok(()))));
-    assert_eq!(out.map(f32::to_bits), [0x4020_0000, 0x7f81_2345, 0]);
+    assert_eq!(out.map(f32::to_bits), [0x4020_0000, nan, 0]);
     reader.seek(1).unwrap();
-    assert_eq!(reader.samples::<f32>().next().unwrap().unwrap().to_bits(), 0x7f81_2345);
+    assert_eq!(reader.samples::<f32>().next().unwrap().unwrap().to_bits(), nan);
 }
 
 // Where samples were decoded before they are asked for, and where the buffer of a file tears one.
@@ -1201,6 +1205,21 @@ fn two_of_this_crate_do_not_change_one_file() {
 }
 
 #[test]
+fn a_file_that_is_open_is_locked_once() {
+    let path = Path::new("lock");
+    let open = || fs::OpenOptions::new().append(true).create(true).open(&path).unwrap();
+    let file = open();
+    hound::lock(&file).unwrap();
+    assert_eq!(hound::lock(&file).is_ok(), !cfg!(windows));
+    if cfg!(any(unix, windows)) {
+        let error = hound::lock(&open()).unwrap_err();
+        assert_eq!((error.kind(), error.to_string().len()), (io::ErrorKind::WouldBlock, 59));
+    }
+    drop(file);
+    hound::lock(&open()).unwrap();
+}
+
+#[test]
 #[cfg(target_os = "linux")]
 fn a_file_without_an_end_is_not_repaired() {
     assert!(matches!(hound::repair_file("/dev/zero"), Err(Error::FormatError("no RIFF tag found"))));
@@ -1276,6 +1295,28 @@ fn errors_and_formats_are_as_those_of_hound() {
     assert!(error.source().is_none() && error.cause().unwrap().to_string() == "full");
     assert!(Error::TooWide.source().is_none() && Error::TooWide.cause().is_none());
     assert_eq!((SampleFormat::Float as u8, SampleFormat::Int as u8), (0, 1));
+}
+
+#[test]
+fn errors_of_machines_and_slices_become_those_of_hound() {
+    let no_tag = Unrepairable::Head(Cause::Format(Reason::NoRiffTag));
+    for (error, text) in [
+        (RepairError::Rejected(no_tag).into(), "Ill-formed WAVE file: no RIFF tag found"),
+        (Error::from(Cause::Ended), "Failed to read enough bytes."),
+        (RepairError::Rejected(Unrepairable::TooLong).into(), "the sizes of the file would not fit in 32 bits"),
+        (RepairError::Failed(FailedAction::Sync).into(), "a sync failed: nobody knows what is stored"),
+        (RepairError::Failed(FailedAction::Call).into(), "the file could not be read or written"),
+        (RecorderError::NeedsCheckpoint.into(), "a write failed: a checkpoint has to come first"),
+        (CallError::NoRoom.into(), "more bytes are needed than there are"),
+        (CallError::Truncated.into(), "the file lacks samples that its header counts"),
+    ] {
+        assert_eq!(error.to_string(), text);
+    }
+    assert!(matches!(Error::from(CallError::OtherFormat), Error::InvalidSampleFormat));
+    assert!(matches!(Error::from(CallError::TooWide), Error::TooWide));
+    assert!(matches!(Error::from(CallError::NotWritable), Error::Unsupported));
+    assert!(matches!(Error::from(CallError::Head(Cause::Unsupported)), Error::Unsupported));
+    assert!(matches!(Error::from(CallError::UnfinishedFrame), Error::UnfinishedSample));
 }
 
 #[test]

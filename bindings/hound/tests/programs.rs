@@ -1,5 +1,6 @@
 //! Tests that start programs. Each of these has for a moment the files that this one has locked, so that tests which
 //! lock one anew are in another file.
+#![cfg(feature = "std")]
 #![cfg(unix)]
 mod common;
 

@@ -8,3 +8,4 @@ pub mod walk;
 pub mod reader;
 pub mod writer;
 pub mod repair;
+pub mod slices;

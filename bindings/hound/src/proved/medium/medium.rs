@@ -5,7 +5,7 @@ use std::io;
 
 /// A place among bytes, counted in bytes from 0. It can be past the end.
 ///
-/// Implemented for [`Tape`](crate::Tape), [`Journal`](crate::Journal), `BufReader<File>`, `BufWriter<File>`, and a
+/// Implemented for [`Tape`](super::Tape), [`Journal`](super::Journal), `BufReader<File>`, `BufWriter<File>`, and a
 /// `&mut` to any such type, so that a medium can be lent.
 ///
 /// If it `tells`, contracts know its bytes; `state` says nothing of any other. Then an `Err` of any call, of `put`,
@@ -22,7 +22,7 @@ pub trait Placed {
 
 /// A place that bytes are written at: what a `WavWriter` writes into.
 ///
-/// Implemented for [`Tape`](crate::Tape), [`Journal`](crate::Journal), `BufWriter<File>`, and a `&mut` to any such
+/// Implemented for [`Tape`](super::Tape), [`Journal`](super::Journal), `BufWriter<File>`, and a `&mut` to any such
 /// type. Your own needs `put` and `flush`, those of [`Placed`] and their laws, and the writer's contracts hold over it.
 pub trait Medium: Placed {
     /// Writes bytes at the place, as many as it takes at once, moves after them, and returns their number, at least 1.
@@ -35,7 +35,7 @@ pub trait Medium: Placed {
 
 /// A place that bytes are read from: what `WavReader::seek` and the calls that append need.
 ///
-/// Implemented for [`Tape`](crate::Tape), [`Journal`](crate::Journal), `BufReader<File>`, and a `&mut` to any such
+/// Implemented for [`Tape`](super::Tape), [`Journal`](super::Journal), `BufReader<File>`, and a `&mut` to any such
 /// type. A `BufWriter<File>` is none, so a file is appended to by `WavWriter::append`.
 pub trait Source: io::Read + Placed {
     /// Reads bytes at the place into the front of the buffer, moves after them, and returns their number, 0 only at the

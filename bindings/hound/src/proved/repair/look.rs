@@ -105,7 +105,7 @@ impl Damage {
     }
 }
 
-/// Looks at a file in a medium that is at its beginning, writes nothing, and reports what [`repair`](crate::repair)
+/// Looks at a file in a medium that is at its beginning, writes nothing, and reports what [`repair`](super::repair)
 /// would find: the frames that the file holds, and how it was found.
 ///
 /// The errors, in their order: those of a reader's walk to the data, by the bytes; `Unsupported`, for samples that are

@@ -13,13 +13,13 @@ use crate::proved::writer::{Action, RepairState};
 /// What a caller requests of a file.
 #[derive(Clone, Copy, Debug, PartialEq, Eq)]
 pub enum Task {
-    /// What [`find_damage`](crate::find_damage) does.
+    /// What [`find_damage`](super::find_damage) does.
     FindDamage,
-    /// What [`repair`](crate::repair) does.
+    /// What [`repair`](super::repair) does.
     Repair,
-    /// What [`repair_to_end`](crate::repair_to_end) does.
+    /// What [`repair_to_end`](super::repair_to_end) does.
     RepairToEnd,
-    /// What [`repair`](crate::repair) does, and the same to a file whose samples are all counted: its RIFF size and its
+    /// What [`repair`](super::repair) does, and the same to a file whose samples are all counted: its RIFF size and its
     /// pad byte become those of the canonical form.
     MakeCanonical,
 }

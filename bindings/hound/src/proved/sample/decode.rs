@@ -14,11 +14,11 @@ const SMALL_PIECE: usize = 64;
 
 /// A type that has a value for every container of the pairs that it reads.
 ///
-/// It is no part of [`Sample`](crate::Sample), whose `read_many` is made of it: the checker allows no cycle between the
+/// It is no part of [`Sample`](super::Sample), whose `read_many` is made of it: the checker allows no cycle between the
 /// methods of an `impl`.
 pub trait Decode: Sized {
     /// Whether containers of a format, with these bytes and used bits, are decoded, or why not: the errors of
-    /// [`Sample::read`](crate::Sample::read).
+    /// [`Sample::read`](super::Sample::read).
     fn check(fmt: SampleFormat, width: u16, bits: u16) -> Result<()>;
 
     /// The value of a container of this many bytes.
@@ -40,7 +40,7 @@ pub(crate) fn check_type(format: SampleFormat, most: u16, fmt: SampleFormat, wid
     Err(Error::Unsupported)
 }
 
-/// Reads a container and decodes it, as [`Sample::read`](crate::Sample::read) does.
+/// Reads a container and decodes it, as [`Sample::read`](super::Sample::read) does.
 #[inline(always)]
 pub(crate) fn read_container<S: Decode, R: io::Read>(
     reader: &mut R,
@@ -71,7 +71,7 @@ fn decode_container<S: Decode, R: ContainerReader>(
     }
 }
 
-/// Takes the next container and decodes it, as [`Sample::read_item`](crate::Sample::read_item) does, with constant
+/// Takes the next container and decodes it, as [`Sample::read_item`](super::Sample::read_item) does, with constant
 /// widths for each pair.
 #[inline(always)]
 pub(crate) fn decode_next<S: Decode, R: ContainerReader>(
@@ -150,7 +150,7 @@ fn read_pieces<S: Decode, R: io::Read>(
     read_through(reader, samples, &mut [0; PIECE], fmt, bits, width)
 }
 
-/// Reads samples as [`Sample::read_many`](crate::Sample::read_many) does, with constant widths for each pair.
+/// Reads samples as [`Sample::read_many`](super::Sample::read_many) does, with constant widths for each pair.
 #[inline(always)]
 pub(crate) fn read_containers<S: Decode, R: io::Read>(
     reader: &mut R,

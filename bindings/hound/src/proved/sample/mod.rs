@@ -24,6 +24,8 @@ macro_rules! by_pair {
         }
     };
 }
+
+mod amplitude;
 mod decode;
 mod float;
 mod integer;
@@ -31,6 +33,8 @@ mod item;
 mod sample;
 pub(crate) mod scale;
 mod slices;
+
+pub use amplitude::{Amplitude, UnitDouble, UnitFloat, store_amplitudes, store_with_noise};
 pub use decode::Decode;
 pub use float::FloatBits;
 pub use item::{ContainerReader, SampleError, error_of_sample, reason_of};

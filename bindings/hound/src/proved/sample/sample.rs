@@ -10,7 +10,7 @@ use std::{io, result};
 
 /// A type whose samples are read and written.
 ///
-/// Implemented for `i8`, `i16`, `i32` and [`FloatBits`](crate::FloatBits). Integers are written with each pair of
+/// Implemented for `i8`, `i16`, `i32` and [`FloatBits`](super::FloatBits). Integers are written with each pair of
 /// `WavSpecEx::is_writable` for integers, if the value fits its bits; `i8` reads 8 bits, `i16` 8 and 16, `i32` all of
 /// those pairs, and so every integer that a writer here writes.
 ///

@@ -75,7 +75,7 @@ pub fn part_from(header: &[u8], first: u32) -> &[u8] {
 /// The effect with this number, from 0, with which a file of this spec begins; none after the last. A file that is
 /// there stays as it is where its name can't be stored. It is emptied and synced before it gets its header, so that a
 /// loss of power brings nothing of it back. After the last effect a recorder begins
-/// ([`Recorder::begin`](crate::Recorder::begin)).
+/// ([`Recorder::begin`](super::Recorder::begin)).
 pub fn beginning_effect(spec_ex: WavSpecEx, number: u32) -> Result<Option<BeginningEffect>, RecorderError> {
     if !spec_ex.is_writable() {
         return Err(RecorderError::NotWritable);

@@ -6,6 +6,7 @@ pub(crate) mod append;
 mod block;
 mod effects;
 mod end;
+mod machine;
 mod output;
 mod recorder;
 mod resuming;

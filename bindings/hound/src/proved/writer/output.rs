@@ -25,7 +25,7 @@ pub(crate) struct Output<W: Medium> {
     // Below this many buffered bytes there is room for a sample, in the block and in the file.
     fast_path_limit: usize,
     // The memory that batches use, which later ones reuse.
-    pub(crate) batch_memory: Option<Vec<i16>>,
+    pub(crate) batch_memory: Option<()>,
 }
 
 // Below how many buffered bytes a block has room for a sample of any width, if this many bytes are written: 0 if a

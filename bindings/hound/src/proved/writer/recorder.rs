@@ -100,7 +100,7 @@ impl Recorder {
         }
     }
 
-    /// A recorder of a new file, which the caller has begun ([`beginning_effect`](crate::beginning_effect)). What comes
+    /// A recorder of a new file, which the caller has begun ([`beginning_effect`](super::beginning_effect)). What comes
     /// next is a checkpoint of no samples, after which a loss of power leaves the header; a block or a checkpoint that
     /// is requested before it takes its place.
     pub fn begin(spec_ex: WavSpecEx) -> Result<Recorder, RecorderError> {

@@ -1,0 +1,21 @@
+#![cfg_attr(feature = "std", doc = include_str!("../MACHINES.md"))]
+#![cfg_attr(not(feature = "std"), doc = "A walk, a repair and a recorder, whose caller reads and writes the file.")]
+pub use crate::proved::repair::{
+    repair_next, Damage, FailedAction, Repair, RepairError, RepairState, RepairStep, Repairing, SeenHead, Stage, Task,
+    Unrepairable,
+};
+pub use crate::proved::spec::header_of;
+pub use crate::proved::walk::{count_samples, take_part, Cause, FileHead, HeadWalk, Part, Reason, Step};
+pub use crate::proved::writer::{
+    beginning_effect, part_from, Action, BeginningEffect, Effect, FoundFile, Health, Phase, Recorder, RecorderError,
+    Report,
+};
+
+impl Damage {
+    /// The file in which this was found, which has so many bytes, as [`Recorder::resume`] takes it.
+    pub fn in_file(&self, length: u64) -> FoundFile {
+        let (SeenHead { data_start, data_length, .. }, found) = (self.head, self.repair());
+        let (spec_ex, frames, state) = (found.spec_ex, found.frames, found.state);
+        FoundFile { spec_ex, data_start, data_length, length, frames, state }
+    }
+}

@@ -1,0 +1,125 @@
+//! Recordings that go on in a next file (own), since a file has less than 4 GiB: `take.wav`, `take-002.wav`,
+//! `take-003.wav` and so on, each of which is a whole file.
+use crate::blocks::WriteSamples;
+use crate::machines::Recorder;
+use crate::{Error, Result, Sample, WavSpec, WavSpecEx, WavWriter};
+use std::path::{Path, PathBuf};
+use std::{env, fs, io, mem};
+
+type Writer = WavWriter<io::BufWriter<fs::File>>;
+
+/// Writes a recording in parts, by blocks of whole frames.
+///
+/// A block that has no room in a file goes whole into the next one, which is begun before the file is flushed and
+/// ended. A block of more frames than a file may have is written as several. A next file that exists is an error, and
+/// is never touched. After an error the file is as a [`WavWriter`] leaves it, a next one that was begun is removed, and
+/// the recording can go on; of a block that is several the first may be written, as [`len`](PartsWriter::len) says.
+pub struct PartsWriter {
+    writer: Writer,
+    first: PathBuf,
+    number: u32,
+    split: u32,
+    begin: fn(&Path, WavSpec) -> Result<Writer>,
+    samples_before: u64,
+}
+
+impl PartsWriter {
+    /// Creates the first file as [`WavWriter::create`] does, over one that there was; a second one may not be there. A
+    /// file has at most `split` frames, and never more than have room.
+    ///
+    /// # Panics
+    ///
+    /// If `split` is 0.
+    pub fn create<P: AsRef<Path>>(filename: P, spec: WavSpec, split: u32) -> Result<PartsWriter> {
+        PartsWriter::over(filename.as_ref(), spec, split, |path, spec| WavWriter::create(path, spec))
+    }
+
+    /// The same of files that survive a loss of power, as [`WavWriter::create_durable`] makes them.
+    pub fn create_durable<P: AsRef<Path>>(filename: P, spec: WavSpec, split: u32) -> Result<PartsWriter> {
+        PartsWriter::over(filename.as_ref(), spec, split, |path, spec| WavWriter::create_durable(path, spec))
+    }
+
+    fn over(
+        filename: &Path,
+        spec: WavSpec,
+        split: u32,
+        begin: fn(&Path, WavSpec) -> Result<Writer>,
+    ) -> Result<PartsWriter> {
+        assert!(split > 0, "a file has at least one frame");
+        let first = env::current_dir()?.join(filename); // The program may change to another folder.
+        for number in [2, 9999] {
+            match fs::symlink_metadata(part_name(&first, number)) {
+                Err(error) if error.kind() == io::ErrorKind::NotFound => {}
+                Err(error) => return Err(error.into()), // Such as of a name that is too long.
+                Ok(_) => return Err(io::Error::from(io::ErrorKind::AlreadyExists).into()),
+            }
+        }
+        Ok(PartsWriter { writer: begin(&first, spec)?, first, number: 1, split, begin, samples_before: 0 })
+    }
+
+    /// Writes samples of whole frames, else the error is `UnfinishedSample`.
+    pub fn write_samples<S: Sample + Copy>(&mut self, samples: &[S]) -> Result<()> {
+        let channels = usize::from(self.writer.spec().channels);
+        if samples.len() % channels != 0 {
+            return Err(Error::UnfinishedSample);
+        }
+        let mut left = samples;
+        while !left.is_empty() {
+            if left.len() / channels > self.frames_left()? && self.writer.len() > 0 {
+                self.go_on()?;
+            }
+            let (block, rest) = left.split_at(left.len().min(self.frames_left()? * channels));
+            self.writer.write_samples(block)?;
+            left = rest;
+        }
+        Ok(())
+    }
+
+    // How many frames have room in the file: the recorder, which is proved, knows what its sizes count.
+    fn frames_left(&self) -> Result<usize> {
+        let spec_ex = WavSpecEx::from(self.writer.spec());
+        let data_length = self.writer.len() * u32::from(spec_ex.bytes_per_sample);
+        let recorder = Recorder { data_length, ..Recorder::begin(spec_ex)? };
+        Ok(recorder.frames_left().min(self.split - self.writer.duration()) as usize)
+    }
+
+    // Ends the file once the next one is begun, so that no sample is without a file.
+    fn go_on(&mut self) -> Result<()> {
+        let (path, spec) = (part_name(&self.first, self.number + 1), self.writer.spec());
+        fs::OpenOptions::new().write(true).create_new(true).open(&path)?;
+        let begun = (self.begin)(&path, spec).and_then(|next| self.writer.flush().map(|()| next));
+        let next = begun.map_err(|error| {
+            let _ = fs::remove_file(&path);
+            error
+        })?;
+        self.samples_before += u64::from(self.writer.len());
+        self.number += 1;
+        mem::replace(&mut self.writer, next).finalize()
+    }
+
+    /// How many samples were written, in all files together.
+    pub fn len(&self) -> u64 {
+        self.samples_before + u64::from(self.writer.len())
+    }
+
+    /// Makes the headers count all samples so far, as [`WavWriter::flush`] does.
+    pub fn flush(&mut self) -> Result<()> {
+        self.writer.flush()
+    }
+
+    /// Ends the last file, as [`WavWriter::finalize`] does.
+    pub fn finalize(self) -> Result<()> {
+        self.writer.finalize()
+    }
+}
+
+// The name of a next file: the second one of take.wav is take-002.wav.
+fn part_name(first: &Path, number: u32) -> PathBuf {
+    let mut name = first.file_stem().unwrap_or_default().to_os_string();
+    name.push(format!("-{number:03}"));
+    if let Some(ending) = first.extension() {
+        name.push(".");
+        name.push(ending);
+    }
+    first.with_file_name(name)
+}
