@@ -95,7 +95,7 @@ def compare(proved: list, erased: list, file: str, counts: list) -> int:
     """Walks along both texts, and returns how many ghost runs the first has more."""
     left_out = [name.split("/")[1][:-3] for name in LEFT_OUT if name.split("/")[0] == file.split("/")[0]]
     entries = [(number, words_of(entry.old), words_of(entry.new))
-               for number, entry in enumerate(REPLACEMENTS) if entry.file in (file, file.split("/")[0] + "/*", "*")]
+               for number, entry in enumerate(REPLACEMENTS) if entry.file in (file, "*")]
     if closing(["{", *erased, "}"], 0) != len(erased) + 1:
         raise Differs("brackets that aren't balanced")
     at = there = runs = 0

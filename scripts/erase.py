@@ -120,7 +120,7 @@ def erased(crate: str, path: Path, left_out: list, replacements: list, counts: l
     """The module of a file."""
     text = without_ghosts(path.read_text())
     for number, entry in enumerate(replacements):
-        if entry.file in (f"{crate}/{path.name}", f"{crate}/*", "*"):
+        if entry.file in (f"{crate}/{path.name}", "*"):
             text, count = replaced(text, entry.old, entry.new)
             counts[number] += count
     for other, name in (name[:-3].split("/") for name in left_out):

@@ -59,15 +59,6 @@ REPLACEMENTS = [
     Allowed("writer/resuming.rt", 1, "fmt<W: fmt::Write>(&self, f: &mut fmt::Formatter<W>)",
             "fmt(&self, f: &mut fmt::Formatter<'_>)", "A formatter of Rust has no type of where it writes."),
     Allowed("writer/output.rt", 1, "Option<Vec<i16>>", "Option<()>", "Nothing here allocates."),
-    # The proofs take usize for 64 bits.
-    Allowed("slices/writing.rt", 1, "Ok((data_length as u32, end as usize))",
-            "Ok((data_length as u32, usize::try_from(end).map_err(|_| CallError::TooLong)?))",
-            "A file of 4 GiB."),
-    Allowed("slices/writing.rt", 1, "sizes_of(spec_ex, data_start as usize, samples)?",
-            "sizes_of(spec_ex, usize::try_from(data_start).map_err(|_| CallError::TooLong)?, samples)?",
-            "Data that begin after 4 GiB."),
-    Allowed("slices/searching.rt", 1, "Ok((length - length % frame) as usize)",
-            "usize::try_from(length - length % frame).map_err(|_| CallError::TooLong)", "A stream of 4 GiB."),
     # A value that is dropped is lent in Rust, and an io::Error isn't copied: one is moved out of where it was saved.
     Allowed("writer/write.rt", 1, "impl<W: Medium> Drop for WavWriter<W> {…}", "", "bindings/hound has its own."),
     Allowed("writer/write.rt", 2, "(no_sample, &self.fault)", "(no_sample, &mut self.fault)",
@@ -103,22 +94,11 @@ REPLACEMENTS = [
             " *sample = S::decode(container, fmt, width, bits);", "It has no check, so that LLVM makes vectors of it."),
 ]
 
-# The slices take the spec of Rust, where those of C take one of which `spec_from_c`, in spec.rt, makes such a spec. It
-# makes each whose samples have a byte, and the other ones each of these calls rejects before it does anything else.
-OF_RUST = [
-    Allowed("slices/*", 9, "spec: HoundSpec,", "spec_ex: WavSpecEx,", "The spec of Rust."),
-    Allowed("slices/*", 9, "let spec_ex = spec_from_c(spec);", "", "The spec of Rust."),
-    Allowed("slices/searching.rt", 1, "use crate::spec::{HoundSpec, spec_from_c};", "use hound_spec::WavSpecEx;",
-            "The spec of Rust."),
-    Allowed("slices/*", 3, "use crate::spec::{HoundSpec, spec_from_c};", "", "The spec of Rust."),
-]
-REPLACEMENTS += OF_RUST
-
 # The whole library as C has it, which erase.py --whole makes for bindings/tests/erased.py alone: all files of slices,
 # and hound_c, whose exports are functions there.
 WHOLE_CRATES = [*CRATES, "c"]
 WHOLE_LEFT_OUT = [name for name in LEFT_OUT if not name.startswith("slices/")]
-WHOLE_REPLACEMENTS = [entry for entry in REPLACEMENTS if entry not in OF_RUST] + [
+WHOLE_REPLACEMENTS = REPLACEMENTS + [
     Allowed("slices/spec.rt", 1, "spec.bits_per_sample.div_ceil(8)",
             "(spec.bits_per_sample / 8 + u16::from(spec.bits_per_sample % 8 > 0))", "u16::div_ceil is of Rust 1.73."),
     Allowed("slices/recording.rt", 1, "pub has_rest: u16,", "pub has_rest: u16, pub unused: u16,",

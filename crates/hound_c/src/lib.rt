@@ -97,7 +97,7 @@ pub extern "C" fn hound_read_f32(file: &[u8], first: u64, out: &mut [FloatBits])
 pub extern "C" fn hound_size(spec: &HoundSpec, samples: u64) -> i64
     ensures { Returns result (Sizes (spec_from_c spec.now) samples) }
 {
-    code_of(file_size(*spec, samples))
+    code_of(file_size(spec_from_c(*spec), samples))
 }
 
 /// Writes the header of the file of so many samples.
@@ -105,7 +105,7 @@ pub extern "C" fn hound_size(spec: &HoundSpec, samples: u64) -> i64
 pub extern "C" fn hound_header(spec: &HoundSpec, samples: u64, out: &mut [u8]) -> i64
     ensures { Returns result (GivesHeader (spec_from_c spec.now) samples out.old out.new) }
 {
-    code_of(write_header(*spec, samples, out))
+    code_of(write_header(spec_from_c(*spec), samples, out))
 }
 
 /// Writes the RIFF size and the data length of the file of so many samples, whose data begin at a place.
@@ -118,7 +118,7 @@ pub extern "C" fn hound_sizes(
 ) -> i64
     ensures { Returns result (GivesSizes (spec_from_c spec.now) data_start samples out.old out.new) }
 {
-    code_of(write_sizes(*spec, data_start, samples, out))
+    code_of(write_sizes(spec_from_c(*spec), data_start, samples, out))
 }
 
 /// Writes a chunk that says nothing, where the data length would otherwise lie across two sectors: its length, or 0.
@@ -134,7 +134,7 @@ pub extern "C" fn hound_filler(data_start: u64, out: &mut [u8]) -> i64
 pub extern "C" fn hound_write_i16(spec: &HoundSpec, samples: &[i16], out: &mut [u8]) -> i64
     ensures { Returns result (WritesFile Int int_container (spec_from_c spec.now) samples.now out.old out.new) }
 {
-    code_of(write_file::<i16>(*spec, SampleFormat::Int, samples, out))
+    code_of(write_file::<i16>(spec_from_c(*spec), SampleFormat::Int, samples, out))
 }
 
 /// Writes the whole file of these samples.
@@ -142,7 +142,7 @@ pub extern "C" fn hound_write_i16(spec: &HoundSpec, samples: &[i16], out: &mut [
 pub extern "C" fn hound_write_i32(spec: &HoundSpec, samples: &[i32], out: &mut [u8]) -> i64
     ensures { Returns result (WritesFile Int int_container (spec_from_c spec.now) samples.now out.old out.new) }
 {
-    code_of(write_file::<i32>(*spec, SampleFormat::Int, samples, out))
+    code_of(write_file::<i32>(spec_from_c(*spec), SampleFormat::Int, samples, out))
 }
 
 /// Writes the whole file of these floats, given as their bits.
@@ -151,7 +151,7 @@ pub extern "C" fn hound_write_f32(spec: &HoundSpec, samples: &[FloatBits], out: 
     ensures { Returns result (WritesFile Float (λ v. pattern_container v.0)
         (spec_from_c spec.now) samples.now out.old out.new) }
 {
-    code_of(write_file::<FloatBits>(*spec, SampleFormat::Float, samples, out))
+    code_of(write_file::<FloatBits>(spec_from_c(*spec), SampleFormat::Float, samples, out))
 }
 
 /// Appends samples after those of the file in the first `used` bytes.
@@ -234,7 +234,7 @@ pub extern "C" fn hound_repairer_next(repairer: &mut HoundRepairer, found: &mut 
 pub extern "C" fn hound_whole_frames(spec: &HoundSpec, length: u64) -> i64
     ensures { Returns result (CountsWhole (spec_from_c spec.now) length) }
 {
-    code_of(whole_frames(*spec, length))
+    code_of(whole_frames(spec_from_c(*spec), length))
 }
 
 /// Where the data may begin in a file whose header is damaged.
@@ -267,7 +267,7 @@ pub extern "C" fn hound_decode_i8(spec: &HoundSpec, bytes: &[u8], out: &mut [i8]
     ensures { Returns result
         (Decodes (int_rejection 1) (λ _. int_meaning) (spec_from_c spec.now) bytes.now out.old out.new) }
 {
-    code_of(decode_block::<i8>(*spec, bytes, out))
+    code_of(decode_block::<i8>(spec_from_c(*spec), bytes, out))
 }
 
 /// Encodes samples of a spec.
@@ -275,7 +275,7 @@ pub extern "C" fn hound_decode_i8(spec: &HoundSpec, bytes: &[u8], out: &mut [i8]
 pub extern "C" fn hound_encode_i8(spec: &HoundSpec, samples: &[i8], out: &mut [u8]) -> i64
     ensures { Returns result (Encodes Int int_container (spec_from_c spec.now) samples.now out.old out.new) }
 {
-    code_of(encode_block::<i8>(*spec, SampleFormat::Int, samples, out))
+    code_of(encode_block::<i8>(spec_from_c(*spec), SampleFormat::Int, samples, out))
 }
 
 /// Decodes samples of a spec.
@@ -284,7 +284,7 @@ pub extern "C" fn hound_decode_i16(spec: &HoundSpec, bytes: &[u8], out: &mut [i1
     ensures { Returns result
         (Decodes (int_rejection 2) (λ _. int_meaning) (spec_from_c spec.now) bytes.now out.old out.new) }
 {
-    code_of(decode_block::<i16>(*spec, bytes, out))
+    code_of(decode_block::<i16>(spec_from_c(*spec), bytes, out))
 }
 
 /// Encodes samples of a spec.
@@ -292,7 +292,7 @@ pub extern "C" fn hound_decode_i16(spec: &HoundSpec, bytes: &[u8], out: &mut [i1
 pub extern "C" fn hound_encode_i16(spec: &HoundSpec, samples: &[i16], out: &mut [u8]) -> i64
     ensures { Returns result (Encodes Int int_container (spec_from_c spec.now) samples.now out.old out.new) }
 {
-    code_of(encode_block::<i16>(*spec, SampleFormat::Int, samples, out))
+    code_of(encode_block::<i16>(spec_from_c(*spec), SampleFormat::Int, samples, out))
 }
 
 /// Decodes samples of a spec.
@@ -301,7 +301,7 @@ pub extern "C" fn hound_decode_i32(spec: &HoundSpec, bytes: &[u8], out: &mut [i3
     ensures { Returns result
         (Decodes (int_rejection 4) (λ _. int_meaning) (spec_from_c spec.now) bytes.now out.old out.new) }
 {
-    code_of(decode_block::<i32>(*spec, bytes, out))
+    code_of(decode_block::<i32>(spec_from_c(*spec), bytes, out))
 }
 
 /// Encodes samples of a spec.
@@ -309,7 +309,7 @@ pub extern "C" fn hound_decode_i32(spec: &HoundSpec, bytes: &[u8], out: &mut [i3
 pub extern "C" fn hound_encode_i32(spec: &HoundSpec, samples: &[i32], out: &mut [u8]) -> i64
     ensures { Returns result (Encodes Int int_container (spec_from_c spec.now) samples.now out.old out.new) }
 {
-    code_of(encode_block::<i32>(*spec, SampleFormat::Int, samples, out))
+    code_of(encode_block::<i32>(spec_from_c(*spec), SampleFormat::Int, samples, out))
 }
 
 /// Decodes samples of a spec.
@@ -318,7 +318,7 @@ pub extern "C" fn hound_decode_f32(spec: &HoundSpec, bytes: &[u8], out: &mut [Fl
     ensures { Returns result (Decodes float_rejection (λ _ _ _ c. record { 0 = pattern c })
         (spec_from_c spec.now) bytes.now out.old out.new) }
 {
-    code_of(decode_block::<FloatBits>(*spec, bytes, out))
+    code_of(decode_block::<FloatBits>(spec_from_c(*spec), bytes, out))
 }
 
 /// Encodes samples of a spec.
@@ -327,7 +327,7 @@ pub extern "C" fn hound_encode_f32(spec: &HoundSpec, samples: &[FloatBits], out:
     ensures { Returns result (Encodes Float (λ v. pattern_container v.0)
         (spec_from_c spec.now) samples.now out.old out.new) }
 {
-    code_of(encode_block::<FloatBits>(*spec, SampleFormat::Float, samples, out))
+    code_of(encode_block::<FloatBits>(spec_from_c(*spec), SampleFormat::Float, samples, out))
 }
 
 /// The integer of one container of 8 bits, which is the low byte of a number.
@@ -403,7 +403,7 @@ pub extern "C" fn hound_to_f32(spec: &HoundSpec, bytes: &[u8], out: &mut [UnitFl
         (λ _ width bits c. record { 0 = float_of_int bits (int_meaning width bits c) })
         (spec_from_c spec.now) bytes.now out.old out.new) }
 {
-    code_of(decode_block::<UnitFloat>(*spec, bytes, out))
+    code_of(decode_block::<UnitFloat>(spec_from_c(*spec), bytes, out))
 }
 
 /// The same to floats of 64 bits, which are exact.
@@ -413,7 +413,7 @@ pub extern "C" fn hound_to_f64(spec: &HoundSpec, bytes: &[u8], out: &mut [UnitDo
         (λ _ width bits c. record { 0 = double_of_int bits (int_meaning width bits c) })
         (spec_from_c spec.now) bytes.now out.old out.new) }
 {
-    code_of(decode_block::<UnitDouble>(*spec, bytes, out))
+    code_of(decode_block::<UnitDouble>(spec_from_c(*spec), bytes, out))
 }
 
 /// Encodes floats whose full scale is 1 as integers of a spec, and counts those that were clipped.
@@ -427,7 +427,7 @@ pub extern "C" fn hound_from_f32(
     ensures { Returns result (EncodesFloats (λ x. x) (spec_from_c spec.now) samples.now out.old out.new
         clipped.old clipped.new) }
 {
-    code_of(encode_floats::<f32>(*spec, samples, out, clipped))
+    code_of(encode_floats::<f32>(spec_from_c(*spec), samples, out, clipped))
 }
 
 /// The same of floats of 64 bits.
@@ -441,7 +441,7 @@ pub extern "C" fn hound_from_f64(
     ensures { Returns result (EncodesFloats (λ x. x) (spec_from_c spec.now) samples.now out.old out.new
         clipped.old clipped.new) }
 {
-    code_of(encode_floats::<f64>(*spec, samples, out, clipped))
+    code_of(encode_floats::<f64>(spec_from_c(*spec), samples, out, clipped))
 }
 
 /// Encodes floats with noise, whose state becomes that for the next floats.
@@ -457,7 +457,7 @@ pub extern "C" fn hound_dither_f32(
         (with_noise (λ x. x) s.spec.bits_per_sample state.old samples.now) out.old out.new clipped.old clipped.new) }
     ensures takes { Returns result (TakesNumbers (length samples.now) state.old state.new) }
 {
-    code_of(encode_with_noise::<f32>(*spec, samples, state, out, clipped))
+    code_of(encode_with_noise::<f32>(spec_from_c(*spec), samples, state, out, clipped))
 }
 
 /// The same of floats of 64 bits.
@@ -473,7 +473,7 @@ pub extern "C" fn hound_dither_f64(
         (with_noise (λ x. x) s.spec.bits_per_sample state.old samples.now) out.old out.new clipped.old clipped.new) }
     ensures takes { Returns result (TakesNumbers (length samples.now) state.old state.new) }
 {
-    code_of(encode_with_noise::<f64>(*spec, samples, state, out, clipped))
+    code_of(encode_with_noise::<f64>(spec_from_c(*spec), samples, state, out, clipped))
 }
 
 /// Widens floats to 64 bits, which changes none.

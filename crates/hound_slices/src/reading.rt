@@ -2,10 +2,8 @@
 ghost use Rattle.std.specs.Prelude.{◌≡◌, ◌≤◌, IfOk, IsOk, None, length};
 ghost use Rattle.hound_reader.specs.{rejection_at};
 ghost use Rattle.hound_slices.specs.Reading.{Decodes, DecodesSamples, ReadsInto, read_check};
-ghost use Rattle.hound_slices.specs.Writing.{spec_from_c};
 
 use crate::error::CallError;
-use crate::spec::{HoundSpec, spec_from_c};
 use hound_sample::{Decode, decode_containers};
 use hound_spec::{Error, WavSpecEx};
 use hound_walk::find_samples;
@@ -70,14 +68,13 @@ pub fn read_block<S: Decode>(file: &[u8], first: u64, out: &mut [S]) -> Result<u
 
 /// Decodes containers of a spec, which lie one after the other, and returns how many.
 pub fn decode_block<S: Decode>(
-    spec: HoundSpec,
+    spec_ex: WavSpecEx,
     bytes: &[u8],
     out: &mut [S],
 ) -> Result<usize, CallError>
-    ensures decodes { Decodes S.decode_rejection S.value (spec_from_c spec) bytes.now out.old out.new result }
+    ensures decodes { Decodes S.decode_rejection S.value spec_ex bytes.now out.old out.new result }
     ensures within { IfOk result (λ n. n ≤ length out.old) }
 {
-    let spec_ex = spec_from_c(spec);
     check_read::<S>(spec_ex)?;
     Ok(decode_front(spec_ex, bytes, out))
 }

@@ -5,11 +5,10 @@ ghost use lib.Ieee.{binary32};
 ghost use Rattle.hound_sample.specs.{int_container, with_noise};
 ghost use Rattle.hound_spec.specs.{IsPair};
 ghost use Rattle.hound_spec.specs.declared.spec.SampleFormat.TheVariants.{Int};
-ghost use Rattle.hound_slices.specs.Writing.{Encodes, spec_from_c};
+ghost use Rattle.hound_slices.specs.Writing.{Encodes};
 ghost use Rattle.hound_slices.specs.Scaling.{CountsClipped, IsNoInteger, NarrowsFloats, TakesNumbers, WidensFloats, becomes_infinite, clipped_among, integers};
 
 use crate::error::CallError;
-use crate::spec::{HoundSpec, spec_from_c};
 use hound_sample::{Amplitude, store_amplitudes, store_with_noise};
 use hound_spec::{SampleFormat, WavSpecEx, is_pair};
 use std::num::{f32_to_f64_with_nan, nearest_f64_to_f32_with_nan};
@@ -39,18 +38,17 @@ fn size_of_integers(spec_ex: WavSpecEx, count: usize, room: usize) -> Result<usi
 /// Encodes floats as integers of a spec, one after the other, counts those that were clipped, and returns how many
 /// bytes.
 pub fn encode_floats<S: Amplitude>(
-    spec: HoundSpec,
+    spec_ex: WavSpecEx,
     samples: &[S],
     out: &mut [u8],
     clipped: &mut u64,
 ) -> Result<usize, CallError>
-    ensures encodes { Encodes Int int_container (spec_from_c spec)
-        (integers S.amplitude (spec_from_c spec) samples.now) out.old out.new result }
-    ensures counts { CountsClipped (clipped_among S.amplitude (spec_from_c spec) samples.now)
+    ensures encodes { Encodes Int int_container spec_ex
+        (integers S.amplitude spec_ex samples.now) out.old out.new result }
+    ensures counts { CountsClipped (clipped_among S.amplitude spec_ex samples.now)
         clipped.old clipped.new result }
     ensures within { IfOk result (λ n. n ≤ length out.old) }
 {
-    let spec_ex = spec_from_c(spec);
     let end = size_of_integers(spec_ex, samples.len(), out.len())?;
     let (bits, width) = (spec_ex.spec.bits_per_sample, spec_ex.bytes_per_sample);
     *clipped = store_amplitudes(&mut out[..end], samples, bits, width);
@@ -59,22 +57,19 @@ pub fn encode_floats<S: Amplitude>(
 
 /// The same with noise, whose state becomes that for the next floats.
 pub fn encode_with_noise<S: Amplitude>(
-    spec: HoundSpec,
+    spec_ex: WavSpecEx,
     samples: &[S],
     state: &mut u64,
     out: &mut [u8],
     clipped: &mut u64,
 ) -> Result<usize, CallError>
-    ensures encodes { let s = spec_from_c spec in Encodes Int int_container s
-        (integers (λ x. x) s (with_noise S.amplitude s.spec.bits_per_sample state.old samples.now))
-        out.old out.new result }
-    ensures counts { let s = spec_from_c spec in CountsClipped
-        (clipped_among (λ x. x) s (with_noise S.amplitude s.spec.bits_per_sample state.old samples.now))
-        clipped.old clipped.new result }
+    ensures encodes { Encodes Int int_container spec_ex (integers (λ x. x) spec_ex
+        (with_noise S.amplitude spec_ex.spec.bits_per_sample state.old samples.now)) out.old out.new result }
+    ensures counts { CountsClipped (clipped_among (λ x. x) spec_ex
+        (with_noise S.amplitude spec_ex.spec.bits_per_sample state.old samples.now)) clipped.old clipped.new result }
     ensures takes { TakesNumbers (length samples.now) state.old state.new result }
     ensures within { IfOk result (λ n. n ≤ length out.old) }
 {
-    let spec_ex = spec_from_c(spec);
     let end = size_of_integers(spec_ex, samples.len(), out.len())?;
     let (bits, width) = (spec_ex.spec.bits_per_sample, spec_ex.bytes_per_sample);
     *clipped = store_with_noise(&mut out[..end], samples, bits, width, state);

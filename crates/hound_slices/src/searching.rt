@@ -2,19 +2,17 @@
 ghost use Rattle.std.specs.Prelude.{◌≡◌, ℕ, ◌+◌, ◌<◌, ◌≤◌, ◌^◌, IfOk, IfSome, length};
 ghost use Rattle.hound_slices.specs.Searching.{CountsWhole, GuessesData, IsFirstTag, IsKind, IsTagAt, is_mpeg, kind_of_fmt, kind_of_tag};
 ghost use Rattle.std.specs.Option.{IfNone};
-ghost use Rattle.hound_slices.specs.Writing.{spec_from_c};
 
 use crate::error::CallError;
-use crate::spec::{HoundSpec, spec_from_c};
 use hound_number::u16_at;
+use hound_spec::WavSpecEx;
 use hound_walk::{Cause, Reason};
 
 /// How many of so many bytes are whole frames of a spec.
-pub fn whole_frames(spec: HoundSpec, length: u64) -> Result<usize, CallError>
-    ensures counts { CountsWhole (spec_from_c spec) length result }
+pub fn whole_frames(spec_ex: WavSpecEx, length: u64) -> Result<usize, CallError>
+    ensures counts { CountsWhole spec_ex length result }
     ensures few { IfOk result (λ n. n < 2 ^ 63) }
 {
-    let spec_ex = spec_from_c(spec);
     if spec_ex.spec.channels == 0 || spec_ex.bytes_per_sample == 0 {
         return Err(CallError::NotWritable);
     }
@@ -22,7 +20,10 @@ pub fn whole_frames(spec: HoundSpec, length: u64) -> Result<usize, CallError>
         return Err(CallError::TooLong);
     }
     let frame = spec_ex.spec.channels as u64 * spec_ex.bytes_per_sample as u64;
-    Ok((length - length % frame) as usize)
+    match usize::try_from(length - length % frame) {
+        Ok(whole) => Ok(whole),
+        Err(_) => Err(CallError::TooLong),
+    }
 }
 
 // The place of the first chunk's header with this tag after the WAVE tag that so many bytes follow, its own among them,

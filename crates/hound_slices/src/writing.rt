@@ -3,10 +3,9 @@ ghost use Rattle.std.specs.Prelude.{◌≡◌, ◌+◌, ◌*◌, ◌%◌, ◌^�
 ghost use Rattle.hound_spec.specs.{IsPair, IsWritable, greatest_u32, data_start, header, padded, padding, riff_size};
 ghost use Rattle.hound_sample.specs.{joined_containers};
 ghost use Rattle.hound_writer.specs.{containers_in};
-ghost use Rattle.hound_slices.specs.Writing.{Encodes, GivesFiller, GivesHeader, GivesSizes, IsSizeError, IsUnencoded, Sizes, WritesFile, spec_from_c, AppendsInPlace};
+ghost use Rattle.hound_slices.specs.Writing.{Encodes, GivesFiller, GivesHeader, GivesSizes, IsSizeError, IsUnencoded, Sizes, WritesFile, AppendsInPlace};
 
 use crate::error::CallError;
-use crate::spec::{HoundSpec, spec_from_c};
 use hound_number::le_u32;
 use hound_repair::set_sizes;
 use hound_sample::{Sample, SampleError, check_containers, have_containers, store_containers};
@@ -81,7 +80,7 @@ fn put_header(spec_ex: WavSpecEx, riff_size: u32, data_length: u32, out: &mut [u
 }
 
 // How many bytes so many samples take, and how many the file that has them after a header of this many.
-fn sizes_of(spec_ex: WavSpecEx, data_start: usize, samples: u64) -> Result<(u32, usize), CallError>
+fn sizes_of(spec_ex: WavSpecEx, data_start: u64, samples: u64) -> Result<(u32, usize), CallError>
     requires channels { 1 ≤ spec_ex.spec.channels }
     requires width { 1 ≤ spec_ex.bytes_per_sample }
     requires some { 8 ≤ data_start }
@@ -100,36 +99,37 @@ fn sizes_of(spec_ex: WavSpecEx, data_start: usize, samples: u64) -> Result<(u32,
         return Err(CallError::UnfinishedFrame);
     }
     let data_length = count as u64 * spec_ex.bytes_per_sample as u64;
-    let end = data_start as u64 + data_length + data_length % 2;
-    if !riff_size_fits(data_start as u64, data_length) {
+    let end = data_start + data_length + data_length % 2;
+    if !riff_size_fits(data_start, data_length) {
         return Err(CallError::TooLong);
     }
-    Ok((data_length as u32, end as usize))
+    match usize::try_from(end) {
+        Ok(size) => Ok((data_length as u32, size)),
+        Err(_) => Err(CallError::TooLong),
+    }
 }
 
 /// How many bytes the file of so many samples has.
-pub fn file_size(spec: HoundSpec, samples: u64) -> Result<usize, CallError>
-    ensures sizes { Sizes (spec_from_c spec) samples result }
+pub fn file_size(spec_ex: WavSpecEx, samples: u64) -> Result<usize, CallError>
+    ensures sizes { Sizes spec_ex samples result }
     ensures small { IfOk result (λ n. n ≤ 2 ^ 33) }
 {
-    let spec_ex = spec_from_c(spec);
     if !spec_ex.is_writable() {
         return Err(CallError::NotWritable);
     }
-    Ok(sizes_of(spec_ex, header_length(spec_ex), samples)?.1)
+    Ok(sizes_of(spec_ex, header_length(spec_ex) as u64, samples)?.1)
 }
 
 /// Writes the header of a file of so many samples to the front of `out`, and returns its length.
-pub fn write_header(spec: HoundSpec, samples: u64, out: &mut [u8]) -> Result<usize, CallError>
-    ensures gives { GivesHeader (spec_from_c spec) samples out.old out.new result }
+pub fn write_header(spec_ex: WavSpecEx, samples: u64, out: &mut [u8]) -> Result<usize, CallError>
+    ensures gives { GivesHeader spec_ex samples out.old out.new result }
     ensures small { IfOk result (λ n. n ≤ 68) }
 {
-    let spec_ex = spec_from_c(spec);
     if !spec_ex.is_writable() {
         return Err(CallError::NotWritable);
     }
     let data_start = header_length(spec_ex);
-    let (data_length, size) = sizes_of(spec_ex, data_start, samples)?;
+    let (data_length, size) = sizes_of(spec_ex, data_start as u64, samples)?;
     if data_start > out.len() {
         return Err(CallError::NoRoom);
     }
@@ -140,15 +140,14 @@ pub fn write_header(spec: HoundSpec, samples: u64, out: &mut [u8]) -> Result<usi
 /// Writes the two sizes of a file of so many samples, whose data begin at a place, to the first eight bytes of `out`,
 /// and returns how many bytes that file has.
 pub fn write_sizes(
-    spec: HoundSpec,
+    spec_ex: WavSpecEx,
     data_start: u64,
     samples: u64,
     out: &mut [u8],
 ) -> Result<usize, CallError>
-    ensures gives { GivesSizes (spec_from_c spec) data_start samples out.old out.new result }
+    ensures gives { GivesSizes spec_ex data_start samples out.old out.new result }
     ensures small { IfOk result (λ n. n ≤ 2 ^ 33) }
 {
-    let spec_ex = spec_from_c(spec);
     let spec = spec_ex.spec;
     let width = spec_ex.bytes_per_sample;
     if !is_pair(spec.sample_format, spec.bits_per_sample, width) {
@@ -163,7 +162,7 @@ pub fn write_sizes(
     if out.len() < 8 {
         return Err(CallError::NoRoom);
     }
-    let (data_length, size) = sizes_of(spec_ex, data_start as usize, samples)?;
+    let (data_length, size) = sizes_of(spec_ex, data_start, samples)?;
     out[..4].copy_from_slice(&le_u32((size - 8) as u32));
     out[4..8].copy_from_slice(&le_u32(data_length));
     Ok(size)
@@ -194,21 +193,20 @@ pub fn write_filler(data_start: u64, out: &mut [u8]) -> Result<usize, CallError>
 
 /// Writes the file of these samples to the front of `out`, and returns its length.
 pub fn write_file<S: Sample + Copy>(
-    spec: HoundSpec,
+    spec_ex: WavSpecEx,
     format: SampleFormat,
     samples: &[S],
     out: &mut [u8],
 ) -> Result<usize, CallError>
-    ensures writes { WritesFile format S.container (spec_from_c spec) samples.now out.old out.new result }
+    ensures writes { WritesFile format S.container spec_ex samples.now out.old out.new result }
     ensures within { IfOk result (λ n. n ≤ length out.old) }
 {
-    let spec_ex = spec_from_c(spec);
     if !spec_ex.is_writable() {
         return Err(CallError::NotWritable);
     }
     check_samples(spec_ex, format, samples)?;
     let data_start = header_length(spec_ex);
-    let (data_length, size) = sizes_of(spec_ex, data_start, samples.len() as u64)?;
+    let (data_length, size) = sizes_of(spec_ex, data_start as u64, samples.len() as u64)?;
     if size > out.len() {
         return Err(CallError::NoRoom);
     }
@@ -219,15 +217,14 @@ pub fn write_file<S: Sample + Copy>(
 
 /// Encodes samples as containers of a spec, one after the other, and returns how many bytes.
 pub fn encode_block<S: Sample + Copy>(
-    spec: HoundSpec,
+    spec_ex: WavSpecEx,
     format: SampleFormat,
     samples: &[S],
     out: &mut [u8],
 ) -> Result<usize, CallError>
-    ensures encodes { Encodes format S.container (spec_from_c spec) samples.now out.old out.new result }
+    ensures encodes { Encodes format S.container spec_ex samples.now out.old out.new result }
     ensures within { IfOk result (λ n. n ≤ length out.old) }
 {
-    let spec_ex = spec_from_c(spec);
     check_samples(spec_ex, format, samples)?;
     let (bits, width) = (spec_ex.spec.bits_per_sample, spec_ex.bytes_per_sample);
     if samples.len() > out.len() / width as usize {
@@ -263,7 +260,7 @@ pub fn append_block<S: Sample + Copy>(
         return Err(CallError::TooLong);
     }
     let count = samples.len() as u64 + stored as u64;
-    let (data_length, size) = sizes_of(spec_ex, data_start, count)?;
+    let (data_length, size) = sizes_of(spec_ex, head.data_start, count)?;
     if size > file.len() {
         return Err(CallError::NoRoom);
     }

@@ -2,8 +2,8 @@
 // How much of a stream is whole frames, where the data may begin if the header is damaged, and what a file is.
 
 use crate::proved::slices::error::CallError;
-use crate::proved::spec::WavSpecEx;
 use crate::proved::number::u16_at;
+use crate::proved::spec::WavSpecEx;
 use crate::proved::walk::{Cause, Reason};
 
 /// How many of so many bytes are whole frames of a spec.
@@ -15,7 +15,10 @@ pub fn whole_frames(spec_ex: WavSpecEx, length: u64) -> Result<usize, CallError>
         return Err(CallError::TooLong);
     }
     let frame = spec_ex.spec.channels as u64 * spec_ex.bytes_per_sample as u64;
-    usize::try_from(length - length % frame).map_err(|_| CallError::TooLong)
+    match usize::try_from(length - length % frame) {
+        Ok(whole) => Ok(whole),
+        Err(_) => Err(CallError::TooLong),
+    }
 }
 
 // The place of the first chunk's header with this tag after the WAVE tag that so many bytes follow, its own among them,

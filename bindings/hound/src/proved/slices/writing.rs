@@ -48,7 +48,7 @@ fn put_header(spec_ex: WavSpecEx, riff_size: u32, data_length: u32, out: &mut [u
 }
 
 // How many bytes so many samples take, and how many the file that has them after a header of this many.
-fn sizes_of(spec_ex: WavSpecEx, data_start: usize, samples: u64) -> Result<(u32, usize), CallError> {
+fn sizes_of(spec_ex: WavSpecEx, data_start: u64, samples: u64) -> Result<(u32, usize), CallError> {
     if samples > u32::MAX as u64 {
         return Err(CallError::TooLong);
     }
@@ -57,11 +57,14 @@ fn sizes_of(spec_ex: WavSpecEx, data_start: usize, samples: u64) -> Result<(u32,
         return Err(CallError::UnfinishedFrame);
     }
     let data_length = count as u64 * spec_ex.bytes_per_sample as u64;
-    let end = data_start as u64 + data_length + data_length % 2;
-    if !riff_size_fits(data_start as u64, data_length) {
+    let end = data_start + data_length + data_length % 2;
+    if !riff_size_fits(data_start, data_length) {
         return Err(CallError::TooLong);
     }
-    Ok((data_length as u32, usize::try_from(end).map_err(|_| CallError::TooLong)?))
+    match usize::try_from(end) {
+        Ok(size) => Ok((data_length as u32, size)),
+        Err(_) => Err(CallError::TooLong),
+    }
 }
 
 /// How many bytes the file of so many samples has.
@@ -69,7 +72,7 @@ pub fn file_size(spec_ex: WavSpecEx, samples: u64) -> Result<usize, CallError> {
     if !spec_ex.is_writable() {
         return Err(CallError::NotWritable);
     }
-    Ok(sizes_of(spec_ex, header_length(spec_ex), samples)?.1)
+    Ok(sizes_of(spec_ex, header_length(spec_ex) as u64, samples)?.1)
 }
 
 /// Writes the header of a file of so many samples to the front of `out`, and returns its length.
@@ -78,7 +81,7 @@ pub fn write_header(spec_ex: WavSpecEx, samples: u64, out: &mut [u8]) -> Result<
         return Err(CallError::NotWritable);
     }
     let data_start = header_length(spec_ex);
-    let (data_length, size) = sizes_of(spec_ex, data_start, samples)?;
+    let (data_length, size) = sizes_of(spec_ex, data_start as u64, samples)?;
     if data_start > out.len() {
         return Err(CallError::NoRoom);
     }
@@ -103,7 +106,7 @@ pub fn write_sizes(spec_ex: WavSpecEx, data_start: u64, samples: u64, out: &mut 
     if out.len() < 8 {
         return Err(CallError::NoRoom);
     }
-    let (data_length, size) = sizes_of(spec_ex, usize::try_from(data_start).map_err(|_| CallError::TooLong)?, samples)?;
+    let (data_length, size) = sizes_of(spec_ex, data_start, samples)?;
     out[..4].copy_from_slice(&le_u32((size - 8) as u32));
     out[4..8].copy_from_slice(&le_u32(data_length));
     Ok(size)
@@ -141,7 +144,7 @@ pub fn write_file<S: Sample + Copy>(
     }
     check_samples(spec_ex, format, samples)?;
     let data_start = header_length(spec_ex);
-    let (data_length, size) = sizes_of(spec_ex, data_start, samples.len() as u64)?;
+    let (data_length, size) = sizes_of(spec_ex, data_start as u64, samples.len() as u64)?;
     if size > out.len() {
         return Err(CallError::NoRoom);
     }
@@ -189,7 +192,7 @@ pub fn append_block<S: Sample + Copy>(
         return Err(CallError::TooLong);
     }
     let count = samples.len() as u64 + stored as u64;
-    let (data_length, size) = sizes_of(spec_ex, data_start, count)?;
+    let (data_length, size) = sizes_of(spec_ex, head.data_start, count)?;
     if size > file.len() {
         return Err(CallError::NoRoom);
     }

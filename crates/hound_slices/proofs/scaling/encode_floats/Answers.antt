@@ -9,16 +9,13 @@ use Rattle.hound_slices.proofs.scaling.encode_floats.Goals as goal
 
 pub returns-clause-encodes : goal.returns-clause-encodes
 returns-clause-encodes g c =
-    let s = c.spec_from_c-spec_ex.result in
+    let s = c.args.spec_ex in
     let bits = s.spec.bits_per_sample in
     let float = g.S.Amplitude.amplitude in
     let values = c.args.samples.now in
     let n = c.in_ok-end.end in
-    subst (λ t. Encodes Int int_container t (integers float t values) c.args.out.now
-    (c.store_amplitudes.new.bytes ++ drop n c.args.out.now) (Ok n))
-    c.spec_from_c-spec_ex.ensures
-    (encoded s (λ x. scaled_to bits (float x)) values n c.store_amplitudes.new.bytes c.args.out.now
+    encoded s (λ x. scaled_to bits (float x)) values n c.store_amplitudes.new.bytes c.args.out.now
     c.in_ok-end.ensures.format c.in_ok-end.ensures.pair (λ x. clipped_fits bits (scaled bits (float x)))
     (c.in_ok-end.ensures.size
     ∙ ap (λ k. k * s.bytes_per_sample) (sym (length-map values (λ x. scaled_to bits (float x)))))
-    c.store_amplitudes.ensures.stored)
+    c.store_amplitudes.ensures.stored

@@ -10,7 +10,7 @@ use Rattle.hound_slices.proofs.scaling.encode_with_noise.Goals as goal
 
 pub returns-in_err-end-clause-encodes : goal.returns-in_err-end-clause-encodes
 returns-in_err-end-clause-encodes g c =
-    let s = c.spec_from_c-spec_ex.result in
+    let s = c.args.spec_ex in
     let noisy = with_noise g.S.Amplitude.amplitude s.spec.bits_per_sample c.args.state.now c.args.samples.now in
     search (
       rules,
@@ -20,18 +20,15 @@ returns-in_err-end-clause-encodes g c =
 
 pub returns-clause-encodes : goal.returns-clause-encodes
 returns-clause-encodes g c =
-    let s = c.spec_from_c-spec_ex.result in
+    let s = c.args.spec_ex in
     let bits = s.spec.bits_per_sample in
     let float = g.S.Amplitude.amplitude in
     let seed = c.args.state.now in
     let values = c.args.samples.now in
     let noisy = with_noise float bits seed values in
     let n = c.in_ok-end.end in
-    subst (λ t. Encodes Int int_container t (integers (λ x. x) t (with_noise float t.spec.bits_per_sample seed values))
-    c.args.out.now (c.store_with_noise.new.bytes ++ drop n c.args.out.now) (Ok n))
-    c.spec_from_c-spec_ex.ensures
-    (encoded s (scaled_to bits) noisy n c.store_with_noise.new.bytes c.args.out.now
+    encoded s (scaled_to bits) noisy n c.store_with_noise.new.bytes c.args.out.now
     c.in_ok-end.ensures.format c.in_ok-end.ensures.pair (λ x. clipped_fits bits (scaled bits x))
     (c.in_ok-end.ensures.size ∙ ap (λ k. k * s.bytes_per_sample)
     (sym (length-map noisy (scaled_to bits) ∙ with_noise-length float bits seed values)))
-    c.store_with_noise.ensures.stored)
+    c.store_with_noise.ensures.stored

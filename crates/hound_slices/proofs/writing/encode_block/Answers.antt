@@ -13,16 +13,14 @@ returns-in_err-check_samples-clause-encodes g c =
     let error = c.in_err-check_samples.field-0.0 in
     rw (p.1, p.2) (
       refl,
-      subst (λ s. IsEncodeError c.args.format g.S.Sample.container s c.args.samples.now (length c.args.out.now) error)
-          c.spec_from_c-spec_ex.ensures
-          (not_encoded c.args.format g.S.Sample.container c.spec_from_c-spec_ex.result c.args.samples.now
+      not_encoded c.args.format g.S.Sample.container c.args.spec_ex c.args.samples.now
           (length c.args.out.now) error
-          c.in_err-check_samples.ensures.unencoded),
+          c.in_err-check_samples.ensures.unencoded,
     )
 
 pub returns-clause-encodes : goal.returns-clause-encodes
 returns-clause-encodes g c =
-    let s = c.spec_from_c-spec_ex.result in
+    let s = c.args.spec_ex in
     let w = s.bytes_per_sample in
     let values = c.args.samples.now in
     let n = length values * w in
@@ -32,10 +30,7 @@ returns-clause-encodes g c =
     let j = joined container w (λ _ b e. (g.met.S.Sample.in_width _ _ _ b e).0) values list list_is in
     let body_is = c.store_containers.ensures in
     let size : length c.store_containers.new.bytes ≡ n = ap length body_is ∙ omega (arith, j.size) in
-    let same : s.spec.sample_format ≡ c.args.format = search rules in
-    subst (λ t. Encodes c.args.format g.S.Sample.container t values c.args.out.now
-    (c.store_containers.new.bytes ++ rest) (Ok n))
-    c.spec_from_c-spec_ex.ensures (
+    let same : s.spec.sample_format ≡ c.args.format = search rules in (
       same,
       search rules,
       list,

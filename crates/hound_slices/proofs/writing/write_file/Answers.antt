@@ -19,16 +19,14 @@ returns-in_err-check_samples-clause-writes g c =
     let error = c.in_err-check_samples.field-0.0 in
     rw (p.1, p.2) (
       refl,
-      subst (λ s. IsWriteError c.args.format g.S.Sample.container s c.args.samples.now (length c.args.out.now) error)
-          c.spec_from_c-spec_ex.ensures
-          (not_written c.args.format g.S.Sample.container c.spec_from_c-spec_ex.result c.args.samples.now
+      not_written c.args.format g.S.Sample.container c.args.spec_ex c.args.samples.now
           (length c.args.out.now) error
-          c.in_err-check_samples.ensures.unencoded),
+          c.in_err-check_samples.ensures.unencoded,
     )
 
 pub returns-clause-writes : goal.returns-clause-writes
 returns-clause-writes g c =
-    let s = c.spec_from_c-spec_ex.result in
+    let s = c.args.spec_ex in
     let w = s.bytes_per_sample in
     let values = c.args.samples.now in
     let old = c.args.out.now in
@@ -63,9 +61,7 @@ returns-clause-writes g c =
     ap (take end) c.write_data_at.ensures ∙ ap (λ out. take end (put start k out body)) begun
     ∙ take_put start k (head ++ drop start old) body size within end end_is
     ∙ ap (λ l. l ++ body) (take_at head (drop start old) start head_long)
-    ∙ (λ i. header s (riff i) (long i) ++ (j.bytes i ++ padding (long i))) in
-    subst (λ t. WritesFile c.args.format g.S.Sample.container t values old c.write_data_at.new.out (Ok end))
-    c.spec_from_c-spec_ex.ensures (
+    ∙ (λ i. header s (riff i) (long i) ++ (j.bytes i ++ padding (long i))) in (
       search rules,
       search rules,
       list,
