@@ -41,12 +41,17 @@ def below():
 
 @dataclasses.dataclass(frozen=True)
 class Edit:
-    """An edit of a crate: its file, the texts that change, and the function that they are in, as the prover names it."""
+    """An edit of a crate: its file, what is in there, and the texts that change."""
 
     name: str
     file: str
+    text: str
     pairs: tuple
-    function: str
+
+    @property
+    def function(self):
+        """The function that the last text is in, as the prover names it."""
+        return function_at_end(self.text.partition(self.pairs[-1][0])[0], self.file)
 
     def apply(self, folder):
         """Makes the edit in a copy of its crate."""
@@ -68,8 +73,7 @@ def read_edit(path, crate):
     found = {word: [words for other, _, words in lines if other == word] for word in ("file", "old", "new")}
     [file], pairs = found["file"], tuple(zip(found["old"], found["new"], strict=True))
     with open(os.path.join(crate, file)) as text:
-        before = text.read().partition(pairs[-1][0])[0]
-    return Edit(os.path.basename(path)[: -len(".edit")], file, pairs, function_at_end(before, file))
+        return Edit(os.path.basename(path)[: -len(".edit")], file, text.read(), pairs)
 
 
 def is_long(twin):

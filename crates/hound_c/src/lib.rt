@@ -13,7 +13,7 @@ ghost use Rattle.hound_sample.specs.{double_of_int, float_of_int, int_container,
 ghost use Rattle.hound_spec.specs.declared.spec.SampleFormat.TheVariants.{Float, Int};
 ghost use Rattle.hound_walk.specs.declared.cause.Cause.{Cause};
 ghost use Rattle.hound_writer.specs.{Advances, AsksForBlock, AsksForCheckpoint, BeginsRecorder, LeavesRoom, Resumes};
-ghost use Rattle.hound_slices.specs.{AppendsInPlace, BeginsForC, BeginsRepairer, CountsWhole, Decodes, Encodes, EncodesFloats, FindsInFile, GivesBeginning, GivesFiller, GivesHeader, GivesSizes, GuessesData, IsDamageError, IsExplicit, IsKind, MakesContainer, NarrowsFloats, ReadsInto, Records, RepairsFile, Returns, Sizes, StepsRepairer, TakesNumbers, TakesPart, WidensFloats, WritesFile, effect_of, error_code, found_file, mends, overwrites, recorder_of, report_of, spec_from_c};
+ghost use Rattle.hound_slices.specs.{AppendsInPlace, BeginsForC, BeginsRepairer, CountsWhole, Decodes, Encodes, EncodesFloats, FindsInFile, GivesBeginning, GivesFiller, GivesHeader, GivesSizes, GuessesData, HasRecorderNumbers, IsDamageError, IsExplicit, IsKind, MakesContainer, NarrowsFloats, ReadsInto, Records, RepairsFile, Returns, Sizes, StepsRepairer, TakesNumbers, TakesPart, WidensFloats, WritesFile, effect_of, error_code, found_file, mends, overwrites, recorder_of, report_of, spec_from_c};
 ghost use Rattle.hound_slices.specs.declared.error.CallError.{CallError as AnyError};
 ghost use Rattle.hound_slices.specs.declared.error.CallError.TheVariants.{Head};
 
@@ -548,6 +548,7 @@ pub extern "C" fn hound_recorder_write(recorder: &mut HoundRecorder, samples: u6
     ensures asks { Records result (λ _. 0) (AsksForBlock (report_of recorder.old.effect) samples
         (recorder_of recorder.old) (recorder_of recorder.new)) }
     ensures none { recorder.new.effect ≡ effect_of None }
+    ensures numbers { HasRecorderNumbers recorder.new }
 {
     let mut asked = recorder_of(recorder);
     let result = asked.write(report_of(recorder.effect), samples);
@@ -564,6 +565,7 @@ pub extern "C" fn hound_recorder_checkpoint(recorder: &mut HoundRecorder)
     ensures asks { AsksForCheckpoint (report_of recorder.old.effect)
         (recorder_of recorder.old) (recorder_of recorder.new) }
     ensures none { recorder.new.effect ≡ effect_of None }
+    ensures numbers { HasRecorderNumbers recorder.new }
 {
     let mut asked = recorder_of(recorder);
     asked.checkpoint(report_of(recorder.effect));
@@ -581,9 +583,10 @@ pub extern "C" fn hound_recorder_frames_left(recorder: &HoundRecorder) -> i64
 /// The next effect of what was requested: 1, or 0 if all of it is done.
 #[unsafe(no_mangle)]
 pub extern "C" fn hound_recorder_next(recorder: &mut HoundRecorder) -> i32
-    ensures { Records result option_len (λ next.
+    ensures next { Records result option_len (λ next.
         Advances (report_of recorder.old.effect) (recorder_of recorder.old) (recorder_of recorder.new) next
         × (recorder.new.effect ≡ effect_of (result_unwrap_or next None))) }
+    ensures numbers { HasRecorderNumbers recorder.new }
 {
     let mut asked = recorder_of(recorder);
     let result = asked.next(report_of(recorder.effect));

@@ -6,8 +6,8 @@ pub use Rattle.hound_slices.specs.Repairing.{FindsInFile, HasHeadOf, IsDamageErr
 pub use Rattle.hound_slices.specs.Walks.{AnswersPart, AreAsked, Asks, AsksAgain, AsksOn, FindsHead, HasNoHead, IsHeadOf, IsStepNumber, Steps, TakesPart, bytes_of_part, found_of, part_end, part_of, walk_of, walk_with}
 pub use Rattle.hound_slices.specs.Scaling.{CountsClipped, EncodesFloats, IsNoInteger, NarrowsFloats, TakesNumbers, WidensFloats, becomes_infinite, clipped_among, integers}
 pub use Rattle.hound_slices.specs.Effects.{GivesBeginning, beginning_of, effect_of, effect_with, report_of}
-pub use Rattle.hound_slices.specs.Recording.{BeginsForC, block_of, found_file, health_of_code, mends, overwrites, phase_of_code, recorder_of}
-pub use Rattle.hound_slices.specs.Repairers.{BeginsRepairer, GivesStep, StepsRepairer, after_head, bytes_read, count_of, error_of, failure_of_code, head_of, head_with, if_head, repairing_of, task_of}
+pub use Rattle.hound_slices.specs.Recording.{BeginsForC, HasRecorderNumbers, block_of, found_file, health_of_code, mends, overwrites, phase_of_code, recorder_of}
+pub use Rattle.hound_slices.specs.Repairers.{BeginsRepairer, GivesStep, HasRepairerNumbers, StepsRepairer, after_head, bytes_read, count_of, error_of, failure_of_code, head_of, head_with, if_head, repairing_of, task_of}
 pub use Rattle.hound_slices.specs.Searching.{CountsWhole, GuessesData, HasFrames, IsFirstTag, IsKind, IsKindOfSamples, IsTagAt, format_of_fmt, is_mpeg}
 unfoldable pub use Rattle.hound_slices.specs.Searching.{kind_of_fmt, kind_of_tag}
 pub mod Codes

@@ -1,5 +1,5 @@
 -- Recorders as C has them.
-use Rattle.std.specs.Prelude.{◌≡◌, ℕ, ◌/◌, ◌%◌, ◌==◌, nat_lt, if◌then◌else◌, Bool, None, Result, Ok, Err}
+use Rattle.std.specs.Prelude.{◌≡◌, ℕ, ◌/◌, ◌%◌, ◌≤◌, ◌==◌, nat_lt, if◌then◌else◌, Bool, None, Result, Ok, Err}
 use Rattle.hound_writer.specs.declared.recorder.Health.{Health}
 use Rattle.hound_writer.specs.declared.recorder.Health.TheVariants.{Sound, Suspect, Dead}
 use Rattle.hound_writer.specs.declared.recorder.Phase.{Phase}
@@ -42,9 +42,16 @@ recorder_of c = record {
   has_rest = nat_lt 0 c.has_rest;
 }
 
+-- Each number of C's recorder is the least that means the same, so that a later version may give the greater ones
+-- another meaning: a recorder may be kept across two versions.
+pub record HasRecorderNumbers (c : HoundRecorder) : Type 0 where
+  pub health : c.health ≤ 2
+  pub phase : c.phase ≤ 4
+  pub has_rest : c.has_rest ≤ 1
+
 -- C's recorder is this one, and nothing is requested, if it begins; else it stays
 abbrev pub BeginsForC : Result Recorder RecorderError → HoundRecorder → HoundRecorder → Type 0
-BeginsForC (Ok r) old new = (recorder_of new ≡ r) × (new.effect ≡ effect_of None)
+BeginsForC (Ok r) old new = (recorder_of new ≡ r) × (new.effect ≡ effect_of None) × HasRecorderNumbers new
 BeginsForC (Err error) old new = new ≡ old
 
 -- the file that C's is

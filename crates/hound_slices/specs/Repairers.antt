@@ -1,5 +1,5 @@
 -- The repair of a caller who reads and writes the file.
-use Rattle.std.specs.Prelude.{◌≡◌, ℕ, ◌+◌, ◌/◌, ◌==◌, nat_lt, if◌then◌else◌, true, false, List, min, take, Option, None, Some, Result, Ok, Err}
+use Rattle.std.specs.Prelude.{◌≡◌, ℕ, ◌+◌, ◌/◌, ◌≤◌, ◌<◌, ◌==◌, nat_lt, if◌then◌else◌, true, false, List, min, take, Option, None, Some, Result, Ok, Err}
 use Rattle.hound_spec.specs.{greatest_u32}
 use Rattle.hound_spec.specs.declared.spec.WavSpecEx.{WavSpecEx}
 use Rattle.hound_repair.specs.{AsksNext, asked_count, frame_length, repair_of}
@@ -101,6 +101,14 @@ GivesStep old new was now (Err (Failed failure)) outcome =
 GivesStep old new was now (Err (Rejected why)) outcome =
     (outcome ≡ Err (error_of (Rejected why))) × (new ≡ old) × (now ≡ was)
 
+-- Each number of C's repairer is the least that means the same, as those of a recorder are. What it has taken says
+-- whether a sample follows the data, once it has found the head.
+pub record HasRepairerNumbers (c : HoundRepairer) : Type 0 where
+  pub part : c.part ≤ 11
+  pub more : 4 ≤ c.part → c.part < 11 → c.taken ≤ 1
+  pub found : c.part ≡ 10 → c.number ≤ 3
+  pub failed : c.part ≡ 11 → c.number ≤ 1
+
 -- What a step of a repairer does, by its outcome: what the repair that it is does.
 pub record StepsRepairer (old new : HoundRepairer) (was now : HoundRepair) (outcome : Result ℕ CallError) : Type 0 where
   pub step : Result RepairStep RepairError
@@ -109,10 +117,12 @@ pub record StepsRepairer (old new : HoundRepairer) (was now : HoundRepair) (outc
   pub gives : GivesStep old new was now step outcome
   pub length : new.length ≡ old.length
   pub mode : new.mode ≡ old.mode
+  pub numbers : HasRepairerNumbers old → HasRepairerNumbers new
 
 -- A repairer that begins: nothing was read of a file of so many bytes.
 pub record BeginsRepairer (length mode : ℕ) (new : HoundRepairer) : Type 0 where
   pub effect : new.effect ≡ effect_of None
   pub length_is : new.length ≡ length
   pub mode_is : new.mode ≡ mode
+  pub numbers : HasRepairerNumbers new
   pub state : repairing_of new ≡ states.Looks (stages.Head (record { found = None; taken = 0; part = part_of 0 0 }))

@@ -48,9 +48,10 @@ walk_of c = walk_with c.spec c.taken c.part c.fmt_length
 abbrev pub part_end : HeadWalk → ℕ
 part_end walk = part_start walk.part walk.taken + part_length walk.part
 
--- the effect that C gets is to read the part that its walk needs
+-- the effect that C gets is to read the part that its walk needs, whose number is the least that means it
 abbrev pub Asks : HoundWalk → Type 0
-Asks c = c.effect ≡ effect_of (Some (Read (part_start (walk_of c).part c.taken) (part_length (walk_of c).part)))
+Asks c = (c.effect ≡ effect_of (Some (Read (part_start (walk_of c).part c.taken) (part_length (walk_of c).part))))
+    × (c.part < 4)
 
 -- Table: what a walk does with the part that it requested (Report, It returns, The walk then).
 -- | done, and another part decides | 1: it requests that part, which is after this one | at it; fewer are left |

@@ -1,7 +1,7 @@
 // Recorders, as C has them.
-ghost use Rattle.std.specs.Prelude.{◌≡◌};
+ghost use Rattle.std.specs.Prelude.{◌≡◌, ◌≤◌};
 ghost use Rattle.hound_slices.specs.Effects.{effect_of};
-ghost use Rattle.hound_slices.specs.Recording.{block_of, found_file, health_of_code, mends, overwrites, phase_of_code, recorder_of};
+ghost use Rattle.hound_slices.specs.Recording.{HasRecorderNumbers, block_of, found_file, health_of_code, mends, overwrites, phase_of_code, recorder_of};
 
 use crate::effect::{HoundEffect, effect_for_c};
 use crate::repairer::state_of_code;
@@ -37,7 +37,8 @@ fn health_of_code(number: u16) -> Health
 
 // The number of that.
 fn code_of_health(health: Health) -> u16
-    ensures { health_of_code result ≡ health }
+    ensures is { health_of_code result ≡ health }
+    ensures least { result ≤ 2 }
 {
     health as u16
 }
@@ -57,7 +58,8 @@ fn phase_of_code(number: u16, length: u32) -> Phase
 
 // The number of that.
 fn code_of_phase(phase: Phase) -> u16
-    ensures { phase_of_code result (block_of phase) ≡ phase }
+    ensures is { phase_of_code result (block_of phase) ≡ phase }
+    ensures least { result ≤ 4 }
 {
     match phase {
         Phase::Idle => 0,
@@ -98,6 +100,7 @@ pub fn recorder_of(c: &HoundRecorder) -> Recorder
 pub fn recorder_for_c(recorder: Recorder, action: Option<Action>) -> HoundRecorder
     ensures is { recorder_of result ≡ recorder }
     ensures requests { result.effect ≡ effect_of action }
+    ensures numbers { HasRecorderNumbers result }
 {
     HoundRecorder {
         effect: effect_for_c(action),

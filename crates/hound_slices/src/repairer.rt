@@ -4,7 +4,7 @@ ghost use Rattle.hound_repair.specs.{IsSoundHead, IsSoundRepairing, IsRepair, Is
 ghost use Rattle.hound_repair.specs.declared.machine.Repairing.TheVariants as states;
 ghost use Rattle.hound_repair.specs.declared.stages.Stage.TheVariants as stages;
 ghost use Rattle.hound_slices.specs.Effects.{effect_of};
-ghost use Rattle.hound_slices.specs.Repairers.{BeginsRepairer, StepsRepairer, after_head, count_of, failure_of_code, error_of, head_of, repairing_of, task_of};
+ghost use Rattle.hound_slices.specs.Repairers.{BeginsRepairer, HasRepairerNumbers, StepsRepairer, after_head, count_of, failure_of_code, error_of, head_of, repairing_of, task_of};
 ghost use Rattle.hound_slices.specs.Repairing.{FindsInFile, IsDamageError, IsReported, RepairsFile, state_code, state_of_code};
 
 use crate::effect::{HoundEffect, effect_for_c, report_of};
@@ -59,7 +59,8 @@ fn failure_of_code(number: u32) -> FailedAction
 
 // The number of what failed.
 fn code_of_failure(failure: FailedAction) -> u32
-    ensures { failure_of_code result ≡ failure }
+    ensures is { failure_of_code result ≡ failure }
+    ensures least { result ≤ 1 }
 {
     failure as u32
 }
@@ -126,6 +127,7 @@ fn with_head(c: HoundRepairer, head: SeenHead, part: u32, place: u64, number: u3
     ensures length { result.length ≡ c.length }
     ensures mode { result.mode ≡ c.mode }
     ensures effect { result.effect ≡ c.effect }
+    ensures taken { result.taken ≤ 1 }
 {
     HoundRepairer {
         place,
@@ -146,6 +148,7 @@ fn repairer_for_c(c: HoundRepairer, state: Repairing, action: Option<Action>) ->
     ensures length { result.length ≡ c.length }
     ensures mode { result.mode ≡ c.mode }
     ensures effect { result.effect ≡ effect_of action }
+    ensures numbers { HasRepairerNumbers result }
 {
     let c = HoundRepairer {
         effect: effect_for_c(action),

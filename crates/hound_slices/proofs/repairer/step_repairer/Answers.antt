@@ -17,6 +17,7 @@ returns-in-Ok-Asks-clause-steps c = record {
       (refl, c.repairer_for_c.ensures.effect, refl);
   length = c.repairer_for_c.ensures.length;
   mode = c.repairer_for_c.ensures.mode;
+  numbers = λ _. c.repairer_for_c.ensures.numbers;
 }
 
 pub returns-in-Ok-Found-clause-steps : goal.returns-in-Ok-Found-clause-steps
@@ -38,6 +39,7 @@ returns-in-Ok-Found-clause-steps c =
           );
       length = c.repairer_for_c-in-Ok-Found.ensures.length;
       mode = c.repairer_for_c-in-Ok-Found.ensures.mode;
+      numbers = λ _. c.repairer_for_c-in-Ok-Found.ensures.numbers;
     }
 
 pub returns-in-Err-Failed-clause-steps : goal.returns-in-Err-Failed-clause-steps
@@ -50,6 +52,7 @@ returns-in-Err-Failed-clause-steps c = record {
       (ap Err c.error_of.ensures, c.repairer_for_c-in-Err-Failed.ensures.effect, refl);
   length = c.repairer_for_c-in-Err-Failed.ensures.length;
   mode = c.repairer_for_c-in-Err-Failed.ensures.mode;
+  numbers = λ _. c.repairer_for_c-in-Err-Failed.ensures.numbers;
 }
 
 pub returns-in-Err-Rejected-clause-steps : goal.returns-in-Err-Rejected-clause-steps
@@ -65,4 +68,5 @@ returns-in-Err-Rejected-clause-steps c =
           (let e : c.into.result ≡ error_of_rejection c.in-Err-Rejected.why = search rules in ap Err e, refl, refl);
       length = refl;
       mode = refl;
+      numbers = λ numbers. numbers;
     }
