@@ -1,0 +1,5 @@
+use Rattle.std.proofs.Common.{rules, sym}
+use Rattle.hound_c.proofs.hound_encode_i32.Goals as goal
+
+pub returns : goal.returns
+returns c = rw (sym c.spec_from_c.ensures) (search rules)
