@@ -40,7 +40,6 @@ REPLACEMENTS = [
     Allowed("*", 7, "+ Drop", "", "Every type of Rust can be dropped."),
     Allowed("medium/medium.rt", 1, "trait Placed: Drop", "trait Placed", "Every type of Rust can be dropped."),
     # What Rattle's library has and Rust's hasn't.
-    Allowed("sample/scale.rt", 1, "use std::num::", "use crate::rattle::", "Conversions of floats."),
     # A float of Rattle has one NaN, so that a sample is the number of its bits. In Rust it is the float itself.
     Allowed("sample/float.rt", 1, "#[repr(C)] #[derive(Clone, Copy, Debug, PartialEq, Eq)] pub struct FloatBits(pub u32);",
             "pub type FloatBits = f32;", "A float of Rust has each pattern."),
@@ -50,10 +49,13 @@ REPLACEMENTS = [
     Allowed("sample/float.rt", 1, "use std::num::{f32_from_bits_with_nan, f32_to_bits_with_nan};", "", "As above."),
     Allowed("sample/float.rt", 1, "impl From<f32> for FloatBits {…}", "", "As above."),
     Allowed("sample/float.rt", 1, "impl FloatBits {…}", "", "As above."),
-    Allowed("*", 2, "use std::num::", "use crate::rattle::", "Conversions of floats."),
+    Allowed("*", 3, "use std::num::", "use crate::rattle::", "Conversions of floats."),
     Allowed("spec/error.rt", 1, ", DeriveError)]", ")]", "bindings/hound has the texts."),
     Allowed("spec/error.rt", 1, "use thiserror::Error as DeriveError;", "", "bindings/hound has the texts."),
-    Allowed("spec/error.rt", 8, "#[error(…)]", "", "bindings/hound has the texts."),
+    Allowed("spec/error.rt", 1, "InvalidSampleFormat, #[error(…)] TooLong, #[error(…)] OutOfMemory",
+            "InvalidSampleFormat", "It is hound's error, which has no more."),
+    Allowed("*", 3, "Error::TooLong", "crate::rattle::too_long()", "It is hound's error, where this is an IoError."),
+    Allowed("spec/error.rt", 6, "#[error(…)]", "", "bindings/hound has the texts."),
     Allowed("spec/header.rt", 1, "impl WavSpec {…}", "", "It takes an allocator: bindings/hound has its own."),
     Allowed("spec/header.rt", 1, "use std::alloc::Global;", "", "Nothing here takes an allocator."),
     Allowed("writer/resuming.rt", 1, "fmt<W: fmt::Write>(&self, f: &mut fmt::Formatter<W>)",

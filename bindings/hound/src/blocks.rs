@@ -1,23 +1,5 @@
-//! Blocks of samples (own). These traits have to be named to be used, so that a trait of your own with such a method
-//! means the same as over hound:
-//!
-//! ```
-//! use hound::blocks::{ReadSamples, WriteSamples};
-//! # use std::io::Cursor;
-//! # let mut file = Cursor::new(Vec::new());
-//! # let sample_format = hound::SampleFormat::Int;
-//! # let spec = hound::WavSpec { channels: 1, sample_rate: 48000, bits_per_sample: 16, sample_format };
-//! let mut writer = hound::WavWriter::new(&mut file, spec)?;
-//! writer.write_samples(&[2i16, -3, 5])?; // all of them, or none
-//! writer.finalize()?;
-//! # file.set_position(0);
-//!
-//! let (mut reader, mut block) = (hound::WavReader::new(file)?, [0i16; 4096]);
-//! let (count, result) = reader.read_samples(&mut block);
-//! assert_eq!(block[..count], [2, -3, 5]);
-//! # result?;
-//! # Ok::<(), hound::Error>(())
-//! ```
+//! Blocks of samples (own). The traits have to be named to be used, as by `use hound::blocks::*`, so that a trait of
+//! your own with such a method means the same as over hound.
 use crate::proved::sample::int_to_float;
 use crate::proved::sample::scale::{double_to_int, int_to_double};
 use crate::{Error, Result, Sample, SampleFormat, WavReader, WavWriter};
@@ -59,7 +41,7 @@ impl<R: Read> ReadSamples for WavReader<R> {
     fn read_scaled<F: Scaled>(&mut self, samples: &mut [F]) -> (usize, Result<()>) {
         let bits = self.spec().bits_per_sample;
         match self.spec().sample_format {
-            SampleFormat::Int => read_as(self, samples, |sample| F::of_integer(sample, bits)),
+            SampleFormat::Int => read_as(self, samples, |sample| F::__hound_of(sample, bits)),
             SampleFormat::Float => read_as(self, samples, F::from),
         }
     }
@@ -89,32 +71,35 @@ impl<W: Write + Seek> WriteSamples for WavWriter<W> {
 
     fn write_scaled<F: Scaled>(&mut self, samples: &[F]) -> Result<u64> {
         let (bits, mut clipped) = (self.spec().bits_per_sample, 0);
-        match self.spec().sample_format {
-            SampleFormat::Int => {
-                let integers = samples.iter().map(|sample| double_to_int((*sample).into(), bits, &mut clipped));
-                let integers: Vec<i32> = integers.collect();
-                self.write_samples(&integers)?;
-            }
-            SampleFormat::Float => {
-                let floats: Option<Vec<f32>> = samples.iter().map(|sample| sample.to_float()).collect();
-                self.write_samples(&floats.ok_or(Error::TooWide)?)?;
-            }
+        if self.spec().sample_format == SampleFormat::Int {
+            let integers = samples.iter().map(|sample| double_to_int((*sample).into(), bits, &mut clipped));
+            let integers: Vec<i32> = integers.collect();
+            self.write_samples(&integers)?;
+        } else {
+            let floats: Option<Vec<f32>> = samples.iter().map(|sample| sample.__hound_to_float()).collect();
+            self.write_samples(&floats.ok_or(Error::TooWide)?)?;
         }
         Ok(clipped)
     }
 }
 
 /// The types of floats that are scaled: `f32`, and `f64`, which holds integers of 32 bits, too.
-pub trait Scaled: Copy + Default + From<f32> + Into<f64> + sealed::Float {}
+pub trait Scaled: Copy + Default + From<f32> + Into<f64> + sealed::Sealed {
+    #[doc(hidden)]
+    fn __hound_of(sample: i32, bits: u16) -> Self;
+
+    // None where a finite number would be infinite.
+    #[doc(hidden)]
+    fn __hound_to_float(self) -> Option<f32>;
+}
 
 macro_rules! scaled {
-    ($float:ident, $of_integer:ident, $to_float:expr) => {
-        impl Scaled for $float {}
-        impl sealed::Float for $float {
-            fn of_integer(sample: i32, bits: u16) -> $float {
-                $of_integer(sample, bits)
+    ($float:ident, $of:ident, $to_float:expr) => {
+        impl Scaled for $float {
+            fn __hound_of(sample: i32, bits: u16) -> $float {
+                $of(sample, bits)
             }
-            fn to_float(self) -> Option<f32> {
+            fn __hound_to_float(self) -> Option<f32> {
                 $to_float(self)
             }
         }
@@ -125,12 +110,8 @@ scaled!(f64, int_to_double, |number: f64| Some(number as f32).filter(|float| flo
 
 mod sealed {
     pub trait Sealed {}
+    impl Sealed for f32 {}
+    impl Sealed for f64 {}
     impl<R> Sealed for crate::WavReader<R> {}
     impl<W: std::io::Write + std::io::Seek> Sealed for crate::WavWriter<W> {}
-
-    pub trait Float {
-        fn of_integer(sample: i32, bits: u16) -> Self;
-        // None where a finite number would be infinite.
-        fn to_float(self) -> Option<f32>;
-    }
 }

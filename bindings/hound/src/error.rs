@@ -1,29 +1,10 @@
 use crate::machines::{Cause, FailedAction, RecorderError, RepairError};
-use crate::proved::spec;
+use crate::proved::spec::Error;
 use crate::proved::walk::{error_of, HeadError};
+use crate::rattle::too_long;
 use crate::slices::CallError;
 use std::io::{self, ErrorKind};
-use std::{error, fmt, result};
-
-/// Why a call failed.
-#[derive(Debug)]
-pub enum Error {
-    /// The reader or the writer failed, or ended early, or the file would be longer than 32 bits can count.
-    IoError(io::Error),
-    /// The bytes are no WAV file, for this reason.
-    FormatError(&'static str),
-    /// The sample has more bits than the type that it is read as, or than the file.
-    TooWide,
-    /// The samples that were written are no whole frames.
-    UnfinishedSample,
-    /// The format isn't supported, or floats are written to a file of integers of fewer than 32 bits.
-    Unsupported,
-    /// Samples that are floats are read as a type of integers, or vice versa. No writer reports it.
-    InvalidSampleFormat,
-}
-
-/// The result of a call.
-pub type Result<T> = result::Result<T, Error>;
+use std::{error, fmt};
 
 impl Error {
     // What an error says that has nothing else to say; as a sentence it has a capital and a full stop.
@@ -63,28 +44,6 @@ impl error::Error for Error {
         match self {
             Error::IoError(error) => Some(error),
             _ => None,
-        }
-    }
-}
-
-impl From<io::Error> for Error {
-    fn from(error: io::Error) -> Error {
-        Error::IoError(error)
-    }
-}
-
-impl From<spec::Error> for Error {
-    #[cold]
-    fn from(error: spec::Error) -> Error {
-        match error {
-            spec::Error::IoError(error) => Error::IoError(error),
-            spec::Error::FormatError(reason) => Error::FormatError(reason),
-            spec::Error::TooWide => Error::TooWide,
-            spec::Error::UnfinishedSample => Error::UnfinishedSample,
-            spec::Error::Unsupported => Error::Unsupported,
-            spec::Error::InvalidSampleFormat => Error::InvalidSampleFormat,
-            spec::Error::TooLong => too_long(),
-            spec::Error::OutOfMemory => io::Error::from(ErrorKind::OutOfMemory).into(),
         }
     }
 }
@@ -135,10 +94,6 @@ impl From<RepairError> for Error {
 
 impl From<Cause> for Error {
     fn from(cause: Cause) -> Error {
-        error_of(HeadError::Rejected(cause)).into()
+        error_of(HeadError::Rejected(cause))
     }
-}
-
-fn too_long() -> Error {
-    io::Error::new(ErrorKind::Other, "the sizes of the file would not fit in 32 bits").into()
 }

@@ -41,7 +41,7 @@ with_std! {
     mod sample;
     mod writer;
 
-    pub use error::{Error, Result};
+    pub use proved::spec::{Error, Result};
     pub use lock::lock;
     pub use reader::{read_wave_header, WavIntoSamples, WavReader, WavSamples};
     pub use repair::{repair_file, repair_file_to_end, Repair};

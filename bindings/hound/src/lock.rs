@@ -32,34 +32,30 @@ fn is_at(_: &fs::File, _: &path::Path) -> io::Result<bool> {
 /// opened and locked it before, the error is `WouldBlock`; on Windows also where it has locked the same `File`. A file
 /// system without locks is no error, and neither is another system than Unix and Windows.
 pub fn lock(file: &fs::File) -> io::Result<()> {
-    match lock_by_system(file) {
-        Err(error) if error.kind() == io::ErrorKind::WouldBlock => {
-            Err(io::Error::new(error.kind(), "another program records to, appends to or repairs this file"))
-        }
-        _ => Ok(()),
+    if is_locked_by_another(file) {
+        let text = "another program records to, appends to or repairs this file";
+        return Err(io::Error::new(io::ErrorKind::WouldBlock, text));
     }
+    Ok(())
 }
 
 #[cfg(unix)]
 #[allow(unsafe_code)]
-fn lock_by_system(file: &fs::File) -> io::Result<()> {
+fn is_locked_by_another(file: &fs::File) -> bool {
     use std::os::{raw::c_int, unix::io::AsRawFd};
     extern "C" {
         fn flock(file: c_int, operation: c_int) -> c_int;
     }
-    const EXCLUSIVE: c_int = 2;
-    const WITHOUT_WAITING: c_int = 4;
+    const EXCLUSIVE_WITHOUT_WAITING: c_int = 2 + 4;
     // SAFETY: the file is open, and no pointer is passed.
-    match unsafe { flock(file.as_raw_fd(), EXCLUSIVE | WITHOUT_WAITING) } {
-        0 => Ok(()),
-        _ => Err(io::Error::last_os_error()),
-    }
+    let result = unsafe { flock(file.as_raw_fd(), EXCLUSIVE_WITHOUT_WAITING) };
+    result != 0 && io::Error::last_os_error().kind() == io::ErrorKind::WouldBlock
 }
 
 // Locks one byte that no file has, since others can't read what is locked.
 #[cfg(windows)]
 #[allow(unsafe_code)]
-fn lock_by_system(file: &fs::File) -> io::Result<()> {
+fn is_locked_by_another(file: &fs::File) -> bool {
     use std::os::windows::io::{AsRawHandle, RawHandle};
     #[repr(C)]
     struct Overlapped {
@@ -74,14 +70,11 @@ fn lock_by_system(file: &fs::File) -> io::Result<()> {
     const IS_LOCKED: i32 = 33;
     let mut place = Overlapped { unused: [0; 2], place: 1 << 62, event: 0 };
     // SAFETY: the file is open, and without waiting nothing of the call is kept.
-    match unsafe { LockFileEx(file.as_raw_handle(), EXCLUSIVE_WITHOUT_WAITING, 0, 1, 0, &mut place) } {
-        0 if io::Error::last_os_error().raw_os_error() == Some(IS_LOCKED) => Err(io::ErrorKind::WouldBlock.into()),
-        0 => Err(io::Error::last_os_error()),
-        _ => Ok(()),
-    }
+    let result = unsafe { LockFileEx(file.as_raw_handle(), EXCLUSIVE_WITHOUT_WAITING, 0, 1, 0, &mut place) };
+    result == 0 && io::Error::last_os_error().raw_os_error() == Some(IS_LOCKED)
 }
 
 #[cfg(not(any(unix, windows)))]
-fn lock_by_system(_: &fs::File) -> io::Result<()> {
-    Ok(())
+fn is_locked_by_another(_: &fs::File) -> bool {
+    false
 }

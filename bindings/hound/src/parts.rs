@@ -7,19 +7,20 @@ use std::path::{Path, PathBuf};
 use std::{env, fs, io, mem};
 
 type Writer = WavWriter<io::BufWriter<fs::File>>;
+type Begin = fn(&Path, WavSpec) -> Result<Writer>;
 
 /// Writes a recording in parts, by blocks of whole frames.
 ///
 /// A block that has no room in a file goes whole into the next one, which is begun before the file is flushed and
-/// ended. A block of more frames than a file may have is written as several. A next file that exists is an error, and
-/// is never touched. After an error the file is as a [`WavWriter`] leaves it, a next one that was begun is removed, and
-/// the recording can go on; of a block that is several the first may be written, as [`len`](PartsWriter::len) says.
+/// ended; one of more frames than a file may have is written as several. A next file that exists is an error, and never
+/// touched. After an error the file is as a [`WavWriter`] leaves it, a next one that was begun is removed, and the
+/// recording can go on; [`len`](PartsWriter::len) says whether the first of several blocks are written.
 pub struct PartsWriter {
     writer: Writer,
     first: PathBuf,
     number: u32,
     split: u32,
-    begin: fn(&Path, WavSpec) -> Result<Writer>,
+    begin: Begin,
     samples_before: u64,
 }
 
@@ -39,12 +40,7 @@ impl PartsWriter {
         PartsWriter::over(filename.as_ref(), spec, split, |path, spec| WavWriter::create_durable(path, spec))
     }
 
-    fn over(
-        filename: &Path,
-        spec: WavSpec,
-        split: u32,
-        begin: fn(&Path, WavSpec) -> Result<Writer>,
-    ) -> Result<PartsWriter> {
+    fn over(filename: &Path, spec: WavSpec, split: u32, begin: Begin) -> Result<PartsWriter> {
         assert!(split > 0, "a file has at least one frame");
         let first = env::current_dir()?.join(filename); // The program may change to another folder.
         for number in [2, 9999] {
@@ -58,19 +54,18 @@ impl PartsWriter {
     }
 
     /// Writes samples of whole frames, else the error is `UnfinishedSample`.
-    pub fn write_samples<S: Sample + Copy>(&mut self, samples: &[S]) -> Result<()> {
+    pub fn write_samples<S: Sample + Copy>(&mut self, mut samples: &[S]) -> Result<()> {
         let channels = usize::from(self.writer.spec().channels);
         if samples.len() % channels != 0 {
             return Err(Error::UnfinishedSample);
         }
-        let mut left = samples;
-        while !left.is_empty() {
-            if left.len() / channels > self.frames_left()? && self.writer.len() > 0 {
+        while !samples.is_empty() {
+            if samples.len() / channels > self.frames_left()? && self.writer.len() > 0 {
                 self.go_on()?;
             }
-            let (block, rest) = left.split_at(left.len().min(self.frames_left()? * channels));
+            let (block, rest) = samples.split_at(samples.len().min(self.frames_left()? * channels));
             self.writer.write_samples(block)?;
-            left = rest;
+            samples = rest;
         }
         Ok(())
     }
@@ -88,13 +83,13 @@ impl PartsWriter {
         let (path, spec) = (part_name(&self.first, self.number + 1), self.writer.spec());
         fs::OpenOptions::new().write(true).create_new(true).open(&path)?;
         let begun = (self.begin)(&path, spec).and_then(|next| self.writer.flush().map(|()| next));
-        let next = begun.map_err(|error| {
+        if begun.is_err() {
             let _ = fs::remove_file(&path);
-            error
-        })?;
-        self.samples_before += u64::from(self.writer.len());
+        }
+        let ended = mem::replace(&mut self.writer, begun?);
+        self.samples_before += u64::from(ended.len());
         self.number += 1;
-        mem::replace(&mut self.writer, next).finalize()
+        ended.finalize()
     }
 
     /// How many samples were written, in all files together.

@@ -1,5 +1,13 @@
 //! What the library of Rattle has, in which the proved code is written, and that of Rust 1.63 hasn't.
 
+use crate::proved::spec::Error;
+use std::io;
+
+/// The error of a file that would be longer than its sizes count.
+pub fn too_long() -> Error {
+    Error::IoError(io::Error::new(io::ErrorKind::Other, "the sizes of the file would not fit in 32 bits"))
+}
+
 /// A type that contracts alone look at.
 pub struct Brand;
 

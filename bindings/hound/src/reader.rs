@@ -7,7 +7,7 @@ use std::{fs, marker, panic, path};
 
 /// Reads the first 12 bytes of a file, and returns the length that they say the file has.
 pub fn read_wave_header<R: Read>(reader: &mut R) -> Result<u64> {
-    Ok(walk::read_wave_header(&mut Input(reader))?)
+    walk::read_wave_header(&mut Input(reader))
 }
 
 /// Reads the samples of a file. It takes no byte after the samples that were asked for.

@@ -1,7 +1,6 @@
 use crate::medium::{Input, Target};
 use crate::proved::reader::WavReader;
 use crate::proved::sample::{error_of_sample, Sample as Proved, SampleError};
-use crate::proved::spec;
 use crate::proved::writer::WavWriter;
 use crate::{Error, Result, SampleFormat, WavSpecEx};
 use std::io::{self, Read, Seek, Write};
@@ -82,7 +81,7 @@ fn put_all<W: Write + Seek, S: Proved + Copy>(writer: &mut Writer<W>, samples: &
 #[inline(never)]
 fn rejected<W: Write + Seek>(writer: &mut Writer<W>, reason: SampleError) -> Error {
     writer.output.writer.resume();
-    error_of_sample(reason, &mut writer.fault).into()
+    error_of_sample(reason, &mut writer.fault)
 }
 
 macro_rules! sample {
@@ -101,7 +100,7 @@ macro_rules! sample {
 
             #[inline]
             fn read<R: io::Read>(reader: &mut R, format: SampleFormat, bytes: u16, bits: u16) -> Result<$type> {
-                Ok(<$type as Proved>::read(&mut Input(reader), format, bytes, bits)?)
+                <$type as Proved>::read(&mut Input(reader), format, bytes, bits)
             }
 
             #[inline(always)]
@@ -122,12 +121,11 @@ macro_rules! sample {
             #[inline(always)]
             fn __hound_read<R: Read>(reader: &mut Reader<R>, spec_ex: WavSpecEx) -> Option<Result<$type>> {
                 let item = reader.next_item(spec_ex)?;
-                Some(item.map_err(|reason| error_of_sample(reason, reader.last_fault()).into()))
+                Some(item.map_err(|reason| error_of_sample(reason, reader.last_fault())))
             }
 
             fn __hound_read_all<R: Read>(reader: &mut Reader<R>, samples: &mut [$type]) -> (usize, Result<()>) {
-                let (count, result) = reader.read_samples(samples);
-                (count, result.map_err(Error::from))
+                reader.read_samples(samples)
             }
         }
     };
@@ -177,8 +175,8 @@ impl io::Write for Container {
 }
 
 impl Proved for Container {
-    fn read<R: io::Read>(_: &mut R, _: SampleFormat, _: u16, _: u16) -> spec::Result<Container> {
-        Err(spec::Error::Unsupported)
+    fn read<R: io::Read>(_: &mut R, _: SampleFormat, _: u16, _: u16) -> Result<Container> {
+        Err(Error::Unsupported)
     }
 
     fn as_i16(self) -> i16 {
@@ -186,7 +184,7 @@ impl Proved for Container {
     }
 
     #[inline(always)]
-    fn encode(self, _: u16, _: u16) -> spec::Result<[u8; 4]> {
+    fn encode(self, _: u16, _: u16) -> Result<[u8; 4]> {
         Ok((self.number as u32).to_le_bytes())
     }
 }

@@ -1,19 +1,7 @@
 //! Samples, headers and sizes in slices of memory, for a program that keeps a file itself (own). Nothing here allocates
 //! or needs `std`. What isn't written of a slice stays as it was, and at an error all of it.
-//!
 //! The types of samples are `i8`, `i16`, `i32` and `f32`, whose format is `Float`; and integers are decoded to floats
-//! whose full scale is 1, as [`UnitFloat`] and [`UnitDouble`], and encoded from such `f32` and `f64`:
-//!
-//! ```
-//! use hound::slices::{decode_block, encode_floats, UnitFloat};
-//! # let sample_format = hound::SampleFormat::Int;
-//! # let spec = hound::WavSpec { channels: 1, sample_rate: 48000, bits_per_sample: 16, sample_format };
-//! let (mut bytes, mut clipped, mut floats) = ([0; 4], 0, [UnitFloat(0.0); 2]);
-//! assert_eq!(encode_floats(spec.into(), &[0.5, 2.0], &mut bytes, &mut clipped)?, 4);
-//! assert_eq!((bytes, clipped), ([0, 0x40, 0xff, 0x7f], 1));
-//! assert_eq!((decode_block(spec.into(), &bytes, &mut floats)?, floats[0].0), (2, 0.5));
-//! # Ok::<(), hound::slices::CallError>(())
-//! ```
+//! whose full scale is 1, as [`UnitFloat`] and [`UnitDouble`], and encoded from such `f32` and `f64`.
 pub use crate::proved::sample::{UnitDouble, UnitFloat};
 use crate::proved::slices::file_kind;
 pub use crate::proved::slices::{

@@ -1,7 +1,7 @@
 use crate::lock::open_locked;
 use crate::medium::{Input, Output, SyncBy, Target};
 use crate::proved::durable::Durable;
-use crate::proved::spec::{self, header_of};
+use crate::proved::spec::header_of;
 use crate::proved::walk::{error_of, read_until_data, FileHead};
 use crate::proved::writer::append::append_at;
 use crate::proved::writer::{beginning_effect, BeginningEffect, FoundFile, Recorder, RecorderError};
@@ -53,12 +53,12 @@ impl<W: Write + Seek> WavWriter<W> {
         WavWriter::over(Writer::try_new(Target::Plain(Output::new(writer)), spec_ex))
     }
 
-    fn over(begun: result::Result<Writer<W>, (Target<W>, spec::Error)>) -> Result<WavWriter<W>> {
+    fn over(begun: result::Result<Writer<W>, (Target<W>, Error)>) -> Result<WavWriter<W>> {
         match begun {
             Ok(proved) => Ok(WavWriter { proved: Box::new(proved), batch: Vec::new(), finalized: false }),
             Err((mut target, error)) => {
                 target.resume();
-                Err(error.into())
+                Err(error)
             }
         }
     }
@@ -121,14 +121,14 @@ impl<W: Write + Seek> WavWriter<W> {
     fn publish(&mut self, continues: bool) -> Result<()> {
         let result = self.publish_what_fits(continues);
         self.proved.output.writer.resume();
-        Ok(result?)
+        result
     }
 
     // Where the medium has no room for the buffered samples, those that are written are published without them.
-    fn publish_what_fits(&mut self, continues: bool) -> spec::Result<()> {
+    fn publish_what_fits(&mut self, continues: bool) -> Result<()> {
         let output = &mut self.proved.output;
         let result = output.publish_all(continues);
-        if let Err(spec::Error::IoError(_)) = result {
+        if let Err(Error::IoError(_)) = result {
             let _ = output.publish_written();
         }
         result

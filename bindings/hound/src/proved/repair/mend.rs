@@ -48,7 +48,7 @@ fn error_for(why: Unrepairable) -> Error {
     match why {
         Unrepairable::Head(cause) => error_of(HeadError::Rejected(cause)),
         Unrepairable::Unsupported => Error::Unsupported,
-        Unrepairable::TooLong => Error::TooLong,
+        Unrepairable::TooLong => crate::rattle::too_long(),
     }
 }
 

@@ -48,7 +48,7 @@ pub fn error_of_sample(no_sample: SampleError, fault: &mut io::Error) -> Error {
         error = Error::Unsupported;
     }
     if let SampleError::TooLong = no_sample {
-        error = Error::TooLong;
+        error = crate::rattle::too_long();
     }
     error
 }

@@ -24,11 +24,6 @@ pub enum Error {
     /// The file's samples are integers and floats were requested, or the other way round. Writing doesn't compare the
     /// formats.
     InvalidSampleFormat,
-    /// The file would get too long for its size fields of 32 bits: its RIFF size would pass 4294967295.
-    TooLong,
-    /// An allocation failed. Only calls that take an allocator return it: a `Tape` or `Journal` that can't grow is an
-    /// `IoError` of kind `OutOfMemory`.
-    OutOfMemory,
 }
 
 /// For `?` on a call that reads or writes: an `IoError` with its fault.

@@ -22,7 +22,7 @@ fn check_head(head: FileHead) -> Result<()> {
         return Err(error_of(HeadError::Rejected(Cause::Format(Reason::FrameLength))));
     }
     if !riff_size_fits(head.data_start, head.data_length as u64) {
-        return Err(Error::TooLong);
+        return Err(crate::rattle::too_long());
     }
     Ok(())
 }
