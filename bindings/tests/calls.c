@@ -725,6 +725,34 @@ static void recorders(void) {
     }
 }
 
+/* A block that is rejected within a checkpoint, after each of its effects, ends nothing: the rest of the checkpoint is
+   requested. A block that is under way is given up. */
+static void rejected_blocks(void) {
+    hound_spec spec = {8000, 2, 16, 0, HOUND_INT};
+    hound_effect wanted[6];
+    int count = effects_of(44, 0, 0, wanted);
+    for (int done = 0; done < count; done++) for (int is_reported = 0; is_reported < 2; is_reported++) {
+        hound_recorder recorder;
+        must(hound_recorder_begin(&spec, &recorder) == 0, "a recorder");
+        for (int i = 0; i <= done; i++) {
+            must(requests(&recorder, &wanted[i]), "an effect of a checkpoint");
+            if (i < done || is_reported) recorder.effect.report = HOUND_DONE;
+        }
+        must(hound_recorder_write(&recorder, 1) == HOUND_UNFINISHED_FRAME, "half a frame within a checkpoint");
+        for (int i = done + is_reported; i < count; i++) {
+            must(requests(&recorder, &wanted[i]), "a checkpoint after a block that was rejected");
+            must(hound_recorder_write(&recorder, UINT64_MAX - 1) == HOUND_TOO_LONG, "a block that is too long");
+            must(requests(&recorder, &wanted[i]), "a checkpoint after another one");
+            recorder.effect.report = HOUND_DONE;
+        }
+        ends(&recorder, 0, "the end of a checkpoint within which blocks were rejected");
+        must(hound_recorder_write(&recorder, 2) == 0 && hound_recorder_next(&recorder) == 1
+                 && recorder.effect.kind == HOUND_WRITE_BLOCK && hound_recorder_write(&recorder, 3) < 0,
+             "a block, and half of one while it is written");
+        ends(&recorder, 0, "a block that was given up is not requested again");
+    }
+}
+
 /* A recorder never cuts off what the header counts, as a part of a frame: a repair comes before it. */
 static void counted_torn_frame(void) {
     hound_spec spec = {8000, 2, 16, 0, HOUND_INT};
@@ -1190,6 +1218,7 @@ int main(void) {
     widths_of_floats();
     sizes_of_none();
     recorders();
+    rejected_blocks();
     counted_torn_frame();
     no_recorders();
     repairers();
