@@ -203,9 +203,9 @@ const CASES = [
   // What it is has a name.
   headless("IMA ADPCM", wav(tone, {tag: 17}), named("IMA ADPCM", "pcm_s16le")),
   headless("64 bits", wav(tone, {tag: 3, bits: 64}), named("floats of 64 bits", "pcm_f32le")),
-  instead("RF64", "RF64", named("RF64, which is for more than 4 GiB", "pcm_s24le")),
+  instead("RF64", "RF64", named("RF64, which is for more than 4 GiB", "pcm_s32le")),
   headless("mp3", Buffer.from([255, 251, 144, 100, ...Array(400).fill(0)]),
-    named("MP3, or another MPEG audio", "pcm_s24le"), 2),
+    named("MP3, or another MPEG audio", "pcm_s32le"), 2),
 ];
 // The names of the files that are saved, without their end, where they aren't the file's own and a word.
 const SAVED = {

@@ -263,14 +263,16 @@ static inline const char *hound_file_text(const hound_file *file, int32_t code) 
 /* How many bytes of the front of a file are looked at for its kind, and how many a sentence on it has at most. */
 enum { HOUND_FILE_FRONT = 4096, HOUND_FILE_SENTENCE = 192 };
 
-/* A sentence on a file of this kind, which isn't read, without its full stop, in this room: what it is, and by what
-   program it becomes one that is read, with as many bits as it may have. NULL where hound_kind_text knows no name. */
+/* A sentence on a file of this kind, which isn't read, without its full stop, in this space: what it is, and by what
+   program it becomes one that is read, with as many bits as it may have. FFmpeg 5.1 takes the bytes of RIFX in the other
+   order, and makes noise of them. NULL where hound_kind_text knows no name. */
 static inline const char *hound_file_kind_reason(int32_t kind, char *room) {
-    const char *name = hound_kind_text(kind), *codec = kind < HOUND_KIND_UNKNOWN ? "pcm_s16le" : "pcm_s24le";
+    const char *name = hound_kind_text(kind), *command = "ffmpeg -i FILE -c:a pcm_s32le NEW.wav";
     if (!name) return NULL;
-    if (kind == HOUND_KIND_FLOAT64) codec = "pcm_f32le";
-    snprintf(room, HOUND_FILE_SENTENCE,
-             "the file holds %s, and isn't read: convert it by ffmpeg -i FILE -c:a %s NEW.wav", name, codec);
+    if (kind < HOUND_KIND_UNKNOWN) command = "ffmpeg -i FILE -c:a pcm_s16le NEW.wav";
+    if (kind == HOUND_KIND_FLOAT64) command = "ffmpeg -i FILE -c:a pcm_f32le NEW.wav";
+    if (kind == HOUND_KIND_RIFX) command = "sox FILE -L NEW.wav";
+    snprintf(room, HOUND_FILE_SENTENCE, "the file holds %s, and isn't read: convert it by %s", name, command);
     return room;
 }
 

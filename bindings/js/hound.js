@@ -93,8 +93,10 @@ const KINDS = new Map([
 
 /** A sentence on a file of a kind that isn't read: what it is, and what makes one of it that is read. */
 function sentenceOn(kind) {
-  const codec = kind < KIND_UNKNOWN ? "pcm_s16le" : kind === KIND_FLOAT64 ? "pcm_f32le" : "pcm_s24le";
-  return `the file holds ${KINDS.get(kind)}, and isn't read: convert it by ffmpeg -i FILE -c:a ${codec} NEW.wav`;
+  const codec = kind < KIND_UNKNOWN ? "pcm_s16le" : kind === KIND_FLOAT64 ? "pcm_f32le" : "pcm_s32le";
+  // FFmpeg 5.1 takes the bytes of RIFX in the other order, and makes noise of them.
+  const command = kind === KIND_RIFX ? "sox FILE -L NEW.wav" : `ffmpeg -i FILE -c:a ${codec} NEW.wav`;
+  return `the file holds ${KINDS.get(kind)}, and isn't read: convert it by ${command}`;
 }
 
 /** A call failed: `code` is the cause's name, `message` a sentence, and `kind` what a file is that isn't read, if it is
@@ -120,7 +122,7 @@ const VERSION = 512;
 const [INT, FLOAT, EFFECT_BYTES, DONE, FAILED] = [0, 1, 40, 1, 2];
 const [READ, WRITE, WRITE_BLOCK, SYNC, SHORTEN, SYNC_FOLDER] = [1, 2, 3, 4, 5, 6];
 const [FIND_DAMAGE, REPAIR, REPAIR_TO_END, MAKE_CANONICAL, MEND, OVERWRITE] = [0, 1, 2, 3, 1, 2];
-const [KIND_UNKNOWN, KIND_FLOAT64] = [65536, 65545];
+const [KIND_UNKNOWN, KIND_RIFX, KIND_FLOAT64] = [65536, 65537, 65545];
 const STATES = ["whole", "cutOff", "hasChunksAfterData", "allCounted"];
 const LAYOUT = {
   spec: { sampleRate: 0, channels: 4, bitsPerSample: 6, bytesPerSample: 8, sampleFormat: 10, size: 12 },

@@ -254,14 +254,16 @@ def check_errors(program, path):
 
 def check_kinds(program, path):
     """A file that isn't read is named, and by what it becomes one that is. The numbers are those of mmreg.h."""
-    for place, other, name, codec in [
-        (20, b"\2\0", "Microsoft ADPCM", "pcm_s16le"),
-        (20, b"\x55\0", "MP3", "pcm_s16le"),
-        (0, b"riff", "Wave64", "pcm_s24le"),
+    rifx = "RIFX, whose numbers have their highest byte first"
+    for place, other, name, command in [
+        (20, b"\2\0", "Microsoft ADPCM", "ffmpeg -i FILE -c:a pcm_s16le NEW.wav"),
+        (20, b"\x55\0", "MP3", "ffmpeg -i FILE -c:a pcm_s16le NEW.wav"),
+        (0, b"riff", "Wave64", "ffmpeg -i FILE -c:a pcm_s32le NEW.wav"),
+        (0, b"RIFX", rifx, "sox FILE -L NEW.wav"),
     ]:
         leave(path, WHOLE[:place] + other + WHOLE[place + len(other) :])
-        ran, says = run(program, path), f"the file holds {name}, and isn't read: convert it by ffmpeg -i FILE"
-        if not is_error(ran) or ran.stderr.decode() != f"repair: {path}: {says} -c:a {codec} NEW.wav\n":
+        ran, says = run(program, path), f"the file holds {name}, and isn't read: convert it by {command}"
+        if not is_error(ran) or ran.stderr.decode() != f"repair: {path}: {says}\n":
             raise Wrong(f"{name} isn't named: {ran}")
 
 

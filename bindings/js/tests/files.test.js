@@ -578,14 +578,16 @@ test("errors have the sentences of hound.h", async () => {
 test("an error names what a file is that isn't read, and what to do", async () => {
   const wide = byHand([0, 0, 0, 0, 0, 0, 240, 63], { bits: 64, tag: 3 });
   const folder = await fs.mkdtemp(path.join(os.tmpdir(), "hound-")), name = path.join(folder, "a.wav");
-  for (const [file, code, kind, codec] of [
-    [byHand([], { tag: 2, bits: 4 }), "BITS_NOT_WHOLE_BYTES", "Microsoft ADPCM", "pcm_s16le"],
-    [byHand([0], { tag: 6, bits: 8 }), "UNSUPPORTED", "A-law", "pcm_s16le"],
-    [wide, "BITS_NOT_32", "floats of 64 bits", "pcm_f32le"],
-    [[...text("RF64"), ...Array(60).fill(0)], "NO_RIFF_TAG", "RF64, which is for more than 4 GiB", "pcm_s24le"],
-    [text("fLaC\0\0\0\x22"), "NO_RIFF_TAG", "FLAC", "pcm_s24le"],
+  const [rifx, by] = ["RIFX, whose numbers have their highest byte first", (codec) => `ffmpeg -i FILE -c:a ${codec} NEW.wav`];
+  for (const [file, code, kind, command] of [
+    [byHand([], { tag: 2, bits: 4 }), "BITS_NOT_WHOLE_BYTES", "Microsoft ADPCM", by("pcm_s16le")],
+    [byHand([0], { tag: 6, bits: 8 }), "UNSUPPORTED", "A-law", by("pcm_s16le")],
+    [wide, "BITS_NOT_32", "floats of 64 bits", by("pcm_f32le")],
+    [[...text("RIFX"), ...Array(60).fill(0)], "NO_RIFF_TAG", rifx, "sox FILE -L NEW.wav"],
+    [[...text("RF64"), ...Array(60).fill(0)], "NO_RIFF_TAG", "RF64, which is for more than 4 GiB", by("pcm_s32le")],
+    [text("fLaC\0\0\0\x22"), "NO_RIFF_TAG", "FLAC", by("pcm_s32le")],
   ]) {
-    const message = `the file holds ${kind}, and isn't read: convert it by ffmpeg -i FILE -c:a ${codec} NEW.wav`;
+    const message = `the file holds ${kind}, and isn't read: convert it by ${command}`;
     await fs.writeFile(name, Uint8Array.from(file));
     const calls = [info, read, repair, findDamage], given = kinds(Uint8Array.from(file));
     const all = calls.flatMap((call) => given.map((one) => [call, one]));
