@@ -82,6 +82,10 @@ REPLACEMENTS = [
     Allowed("spec/spec.rt", 1, "pub fn is_writable", "pub(crate) fn is_writable", "hound has no such method."),
     Allowed("sample/scale.rt", 1, "number.round_ties_even()", "crate::rattle::round_ties_even(number)",
             "f64::round_ties_even is of Rust 1.77."),
+    # A block is made where it stays: a struct that holds it would be copied each time that it moves.
+    Allowed("writer/block.rt", 1, "bytes: [u8; BLOCK_LENGTH],", "bytes: crate::rattle::Boxed<[u8; BLOCK_LENGTH]>,",
+            "A file of few samples takes less time."),
+    Allowed("writer/block.rt", 1, "bytes: [0; BLOCK_LENGTH],", "bytes: crate::rattle::boxed([0; BLOCK_LENGTH]),", "As above."),
     # Loops that LLVM makes no vectors of where Rust checks their indices, which the kit's compiler doesn't. In Rattle
     # they count, because the contracts also hold of containers without bytes, of which an iterator over chunks would
     # give none.

@@ -35,6 +35,7 @@ pub trait WriteSamples: sealed::Sealed {
 
 impl<R: Read> ReadSamples for WavReader<R> {
     fn read_samples<S: Sample>(&mut self, samples: &mut [S]) -> (usize, Result<()>) {
+        self.begin(0);
         S::__hound_read_all(&mut self.proved, samples)
     }
 

@@ -3,7 +3,7 @@ use crate::proved::durable::Durable;
 use crate::proved::medium::{Medium, Placed, Source};
 use std::any::Any;
 use std::fs::File;
-use std::io::{self, ErrorKind, Read, Seek, SeekFrom, Write};
+use std::io::{self, BufReader, ErrorKind, Read, Seek, SeekFrom, Write};
 use std::panic::{self, AssertUnwindSafe};
 use std::sync::{Mutex, PoisonError};
 
@@ -36,6 +36,114 @@ impl<R: Read + Seek> Source for Input<R> {
                 Err(error) if error.kind() == ErrorKind::Interrupted => {}
                 result => return result,
             }
+        }
+    }
+}
+
+/// What a `WavReader` reads from: a reader of the user's, or a file that this crate has opened. The function makes that
+/// the reader which it is, since other code doesn't know that `R` is its type.
+pub enum Origin<R> {
+    Reader(R),
+    Opened(Box<Opened>, fn(BufReader<File>) -> R),
+}
+
+/// A file that this crate has opened, and samples that were read ahead of their turn: only such as its buffer held, so
+/// that it can go back without a call of the system.
+pub struct Opened {
+    file: BufReader<File>,
+    // The samples that weren't given yet are those from `next` to `end`, each as its bits.
+    samples: [u32; Opened::MOST],
+    next: usize,
+    end: usize,
+    sample_type: u8, // Their type, by the number that it has as a `Sample`.
+    wanted: usize,   // How many are to be read at the next time: few at first, since a `seek` may come.
+}
+
+impl Opened {
+    /// At most so many samples are read ahead.
+    pub(crate) const MOST: usize = 128;
+
+    pub(crate) fn new(file: BufReader<File>) -> Opened {
+        Opened { file, samples: [0; Opened::MOST], next: 0, end: 0, sample_type: 0, wanted: 1 }
+    }
+
+    #[inline(always)]
+    pub(crate) fn next(&mut self) -> Option<u32> {
+        let sample = *self.samples[..self.end].get(self.next)?;
+        self.next += 1;
+        Some(sample)
+    }
+
+    /// How many samples of so many bytes are to be read now, of those that the buffer holds.
+    pub(crate) fn count(&mut self, width: u16) -> usize {
+        let wanted = self.wanted;
+        self.wanted = (2 * wanted).min(Opened::MOST);
+        wanted.min(self.file.buffer().len() / usize::from(width))
+    }
+
+    pub(crate) fn put(&mut self, samples: impl ExactSizeIterator<Item = u32>) {
+        (self.next, self.end) = (0, samples.len());
+        self.samples.iter_mut().zip(samples).for_each(|(slot, sample)| *slot = sample);
+    }
+
+    /// Samples of this type are rejected, and no more are read ahead.
+    pub(crate) fn reject(&mut self) {
+        self.wanted = 0;
+    }
+
+    /// Begins with samples of a type. If others were read ahead, of so many bytes each, the file goes back before them,
+    /// and the result is how many they are.
+    pub(crate) fn begin(&mut self, sample_type: u8, width: u16) -> u64 {
+        if self.sample_type == sample_type {
+            return 0;
+        }
+        let count = (self.end - self.next) as u64;
+        self.file.seek_relative(-((count * u64::from(width)) as i64)).expect("the buffer holds them");
+        (self.next, self.end, self.sample_type, self.wanted) = (0, 0, sample_type, 1);
+        count
+    }
+}
+
+impl<R> Origin<R> {
+    #[inline(always)]
+    pub(crate) fn opened(&mut self) -> Option<&mut Opened> {
+        match self {
+            Origin::Reader(_) => None,
+            Origin::Opened(opened, _) => Some(opened),
+        }
+    }
+
+    /// How many samples were read ahead.
+    pub(crate) fn ahead(&self) -> usize {
+        match self {
+            Origin::Reader(_) => 0,
+            Origin::Opened(opened, _) => opened.end - opened.next,
+        }
+    }
+
+    pub(crate) fn into_inner(self) -> R {
+        match self {
+            Origin::Reader(reader) => reader,
+            Origin::Opened(opened, reader_of) => reader_of(opened.file),
+        }
+    }
+}
+
+impl<R: Read> Read for Origin<R> {
+    #[inline(always)]
+    fn read(&mut self, bytes: &mut [u8]) -> io::Result<usize> {
+        match self {
+            Origin::Reader(reader) => reader.read(bytes),
+            Origin::Opened(opened, _) => opened.file.read(bytes),
+        }
+    }
+}
+
+impl<R: Seek> Seek for Origin<R> {
+    fn seek(&mut self, to: SeekFrom) -> io::Result<u64> {
+        match self {
+            Origin::Reader(reader) => reader.seek(to),
+            Origin::Opened(opened, _) => opened.file.seek(to),
         }
     }
 }

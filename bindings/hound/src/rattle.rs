@@ -40,3 +40,15 @@ casts! {
     nearest_u64_to_f64: u64 => f64;
     saturating_f64_to_i64: f64 => i64;
 }
+
+/// A value on the heap, where there is `std`.
+#[cfg(feature = "std")]
+pub use std::boxed::Box as Boxed;
+#[cfg(not(feature = "std"))]
+pub type Boxed<T> = T;
+
+pub fn boxed<T>(value: T) -> Boxed<T> {
+    #[cfg(feature = "std")]
+    let value = Box::new(value);
+    value
+}

@@ -1,5 +1,5 @@
-use crate::medium::Input;
-use crate::proved::walk;
+use crate::medium::{Input, Opened, Origin};
+use crate::proved::walk::{self, error_of, read_until_samples};
 use crate::sample::Reader;
 use crate::{Result, Sample, WavSpec, WavSpecEx};
 use std::io::{self, Read};
@@ -23,7 +23,12 @@ impl<R: Read> WavReader<R> {
     /// Reads the header, and makes a reader of the samples after it. A program that reads a file needs a `BufReader`
     /// around it, as that of [`open`](WavReader::open) has.
     pub fn new(reader: R) -> Result<WavReader<R>> {
-        Ok(WavReader { proved: Reader::new(Input(reader))? })
+        WavReader::over(reader, Origin::Reader)
+    }
+
+    fn over(mut reader: R, origin: impl FnOnce(R) -> Origin<R>) -> Result<WavReader<R>> {
+        let (head, num_samples) = read_until_samples(&mut Input(&mut reader)).map_err(error_of)?;
+        Ok(WavReader { proved: Reader::over(Input(origin(reader)), head.spec_ex, num_samples) })
     }
 
     /// What the file says of its samples.
@@ -38,11 +43,13 @@ impl<R: Read> WavReader<R> {
     /// error. An `i32` holds all integers. A rejected item counts as read, but its bytes come next: `seek`
     /// before you read on. Stop at an `IoError`: a file that was cut off has one for each missing sample.
     pub fn samples<'wr, S: Sample>(&'wr mut self) -> WavSamples<'wr, R, S> {
+        self.begin(S::__HOUND_TYPE);
         WavSamples { spec_ex: self.proved.spec_ex(), reader: self, phantom_sample: marker::PhantomData }
     }
 
     /// The same, which owns the reader.
-    pub fn into_samples<S: Sample>(self) -> WavIntoSamples<R, S> {
+    pub fn into_samples<S: Sample>(mut self) -> WavIntoSamples<R, S> {
+        self.begin(S::__HOUND_TYPE);
         WavIntoSamples { spec_ex: self.proved.spec_ex(), reader: self, phantom_sample: marker::PhantomData }
     }
 
@@ -57,8 +64,9 @@ impl<R: Read> WavReader<R> {
     }
 
     /// The reader, after the last sample that was asked for.
-    pub fn into_inner(self) -> R {
-        self.proved.into_inner().0
+    pub fn into_inner(mut self) -> R {
+        self.begin(0);
+        self.proved.into_inner().0.into_inner()
     }
 
     /// Goes to a frame, counted from 0. After the last one no sample is left.
@@ -66,14 +74,28 @@ impl<R: Read> WavReader<R> {
     where
         R: io::Seek,
     {
+        self.begin(0);
         self.proved.seek(time)
+    }
+
+    /// Begins with samples of a type, by its number. Others that were read ahead weren't read then.
+    pub(crate) fn begin(&mut self, sample_type: u8) {
+        let width = self.proved.spec_ex().bytes_per_sample;
+        let count = self.proved.reader.reader.0.opened().map_or(0, |opened| opened.begin(sample_type, width));
+        self.proved.samples_read -= count;
+        self.proved.bytes_read -= count * u64::from(width);
+    }
+
+    fn samples_left(&self) -> usize {
+        self.proved.samples_left() as usize + self.proved.reader.reader.0.ahead()
     }
 }
 
 impl WavReader<io::BufReader<fs::File>> {
     /// Opens a file, and reads its header.
     pub fn open<P: AsRef<path::Path>>(filename: P) -> Result<WavReader<io::BufReader<fs::File>>> {
-        WavReader::new(io::BufReader::new(fs::File::open(filename)?))
+        let file = io::BufReader::new(fs::File::open(filename)?);
+        WavReader::over(file, |file| Origin::Opened(Box::new(Opened::new(file)), |file| file))
     }
 }
 
@@ -102,7 +124,7 @@ macro_rules! samples {
             }
 
             fn size_hint(&self) -> (usize, Option<usize>) {
-                let left = self.reader.proved.samples_left() as usize;
+                let left = self.reader.samples_left();
                 (left, Some(left))
             }
         }

@@ -1,4 +1,4 @@
-use crate::medium::{Input, Target};
+use crate::medium::{Input, Opened, Origin, Target};
 use crate::proved::reader::WavReader;
 use crate::proved::sample::{error_of_sample, Sample as Proved, SampleError};
 use crate::proved::writer::WavWriter;
@@ -6,7 +6,7 @@ use crate::{Error, Result, SampleFormat, WavSpecEx};
 use std::io::{self, Read, Seek, Write};
 
 /// The proved reader and writer, over those of the user's.
-pub type Reader<R> = WavReader<Input<R>>;
+pub type Reader<R> = WavReader<Input<Origin<R>>>;
 pub type Writer<W> = WavWriter<Target<W>>;
 
 /// A type of samples: `i8`, `i16`, `i32`, `f32`, or one of your own.
@@ -22,6 +22,10 @@ pub trait Sample: Sized {
 
     /// The lowest 16 bits of an integer.
     fn as_i16(self) -> i16;
+
+    // The number of the type, of one of your own 0, since samples of that aren't read ahead.
+    #[doc(hidden)]
+    const __HOUND_TYPE: u8 = 0;
 
     // What readers and writers call; of a type of your own it is by the calls above. No trait of yours has such names.
 
@@ -84,9 +88,49 @@ fn rejected<W: Write + Seek>(writer: &mut Writer<W>, reason: SampleError) -> Err
     error_of_sample(reason, &mut writer.fault)
 }
 
+#[inline(always)]
+fn read_one<R: Read, S: Proved>(reader: &mut Reader<R>, spec_ex: WavSpecEx) -> Option<Result<S>> {
+    match reader.next_item(spec_ex)? {
+        Ok(sample) => Some(Ok(sample)),
+        Err(reason) => Some(Err(unread(reader, reason))),
+    }
+}
+
+#[cold]
+#[inline(never)]
+fn unread<R: Read>(reader: &mut Reader<R>, reason: SampleError) -> Error {
+    error_of_sample(reason, reader.last_fault())
+}
+
+// Reads a sample, and those after it which the buffer of the file holds. The one error is that of the type, before all.
+#[inline(never)]
+fn read_ahead<R: Read, S: Proved + Copy + Default>(
+    reader: &mut Reader<R>,
+    bits_of: impl Fn(S) -> u32,
+) -> Option<Result<S>> {
+    let spec_ex = reader.spec_ex();
+    let left = reader.samples_left() as usize;
+    let count = reader.reader.reader.0.opened().map_or(0, |opened| opened.count(spec_ex.bytes_per_sample));
+    let count = count.min(left);
+    if count < 2 {
+        return read_one(reader, spec_ex);
+    }
+    let mut samples = [S::default(); Opened::MOST];
+    let (_, result) = reader.read_samples(&mut samples[..count]);
+    let opened = reader.reader.reader.0.opened()?;
+    if let Err(error) = result {
+        opened.reject();
+        return Some(Err(error));
+    }
+    opened.put(samples[1..count].iter().map(|sample| bits_of(*sample)));
+    Some(Ok(samples[0]))
+}
+
 macro_rules! sample {
-    ($type:ident, $as_i16:expr) => {
+    ($type:ident, $number:expr, $bits_of:expr, $of_bits:expr, $as_i16:expr) => {
         impl Sample for $type {
+            const __HOUND_TYPE: u8 = $number;
+
             #[inline]
             fn write<W: io::Write>(self, writer: &mut W, bits: u16) -> Result<()> {
                 Sample::write_padded(self, writer, bits, bits / 8)
@@ -120,8 +164,11 @@ macro_rules! sample {
 
             #[inline(always)]
             fn __hound_read<R: Read>(reader: &mut Reader<R>, spec_ex: WavSpecEx) -> Option<Result<$type>> {
-                let item = reader.next_item(spec_ex)?;
-                Some(item.map_err(|reason| error_of_sample(reason, reader.last_fault())))
+                match reader.reader.reader.0.opened().map(Opened::next) {
+                    Some(Some(bits)) => Some(Ok($of_bits(bits))),
+                    Some(None) => read_ahead(reader, $bits_of),
+                    None => read_one(reader, spec_ex),
+                }
             }
 
             fn __hound_read_all<R: Read>(reader: &mut Reader<R>, samples: &mut [$type]) -> (usize, Result<()>) {
@@ -130,10 +177,10 @@ macro_rules! sample {
         }
     };
 }
-sample!(i8, i16::from);
-sample!(i16, |sample| sample);
-sample!(i32, |sample| sample as i16);
-sample!(f32, |_| panic!("a float has no 16 bits"));
+sample!(i8, 1, |sample| sample as u32, |bits| bits as i8, i16::from);
+sample!(i16, 2, |sample| sample as u32, |bits| bits as i16, |sample| sample);
+sample!(i32, 3, |sample| sample as u32, |bits| bits as i32, |sample| sample as i16);
+sample!(f32, 4, f32::to_bits, f32::from_bits, |_| panic!("a float has no 16 bits"));
 
 /// What a type of the user's own writes: one container, or it is rejected.
 #[derive(Clone, Copy)]
@@ -191,7 +238,7 @@ impl Proved for Container {
 
 /// What a type of the user's own reads from.
 struct Counting<'r, R> {
-    reader: &'r mut Input<R>,
+    reader: &'r mut Input<Origin<R>>,
     given: &'r mut u64,
 }
 

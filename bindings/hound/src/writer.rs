@@ -31,7 +31,7 @@ impl WavSpec {
 /// a frame. Samples are buffered, up to 4096 bytes: `flush` writes them and the sizes, `finalize` does so and ends the
 /// file. A drop does it too, but its errors aren't seen, and neither are its panics.
 pub struct WavWriter<W: Write + Seek> {
-    pub(crate) proved: Box<Writer<W>>,
+    pub(crate) proved: Writer<W>,
     batch: Vec<i16>,
     finalized: bool,
 }
@@ -55,7 +55,7 @@ impl<W: Write + Seek> WavWriter<W> {
 
     fn over(begun: result::Result<Writer<W>, (Target<W>, Error)>) -> Result<WavWriter<W>> {
         match begun {
-            Ok(proved) => Ok(WavWriter { proved: Box::new(proved), batch: Vec::new(), finalized: false }),
+            Ok(proved) => Ok(WavWriter { proved, batch: Vec::new(), finalized: false }),
             Err((mut target, error)) => {
                 target.resume();
                 Err(error)

@@ -9,7 +9,7 @@ pub(crate) const BLOCK_LENGTH: usize = 4096;
 /// Accepted containers that are buffered, one after the other.
 pub(crate) struct Block {
     // Their bytes; those after these mean nothing.
-    bytes: [u8; BLOCK_LENGTH],
+    bytes: crate::rattle::Boxed<[u8; BLOCK_LENGTH]>,
     // How many bytes they have.
     length: usize,
 }
@@ -17,7 +17,7 @@ pub(crate) struct Block {
 impl Block {
     /// An empty block.
     pub(crate) fn new() -> Block {
-        Block { bytes: [0; BLOCK_LENGTH], length: 0 }
+        Block { bytes: crate::rattle::boxed([0; BLOCK_LENGTH]), length: 0 }
     }
 
     /// How many bytes are buffered.

@@ -185,7 +185,7 @@ fn full(tally: &mut Tally) {
             if package >= original {
                 tally.same();
             } else if package >= flushed {
-                tally.listed("a full file: what came after the last flush isn't counted");
+                tally.listed("a full file: the block that has no room isn't counted");
             } else {
                 tally
                     .unexplained(|| format!("{bits} bits {is_float}, full at {room}: {original} bytes, and {package}"));

@@ -4,6 +4,7 @@
 use dropin::{both, Chooser, Tally};
 use std::io::{Cursor, Read, Seek};
 use std::panic::{catch_unwind, set_hook, AssertUnwindSafe};
+use std::path::Path;
 
 both! {
     use hound::{Error, Result, Sample, SampleFormat, WavReader, WavSpec, WavSpecEx, WavWriter};
@@ -55,15 +56,23 @@ both! {
     }
 
     // Goes to a frame as a new reader that reads up to it would.
-    fn go_anew(bytes: &[u8], time: u32) -> WavReader<Cursor<&[u8]>> {
-        let mut reader = WavReader::new(Cursor::new(bytes)).unwrap();
+    fn go_anew<R: Read>(mut reader: WavReader<R>, time: u32) -> WavReader<R> {
         let samples = time * u32::from(reader.spec().channels);
         reader.samples::<Skipped>().take(samples as usize).for_each(drop);
         reader
     }
 
     pub fn read(bytes: &[u8], seed: u64, seeks: bool) -> String {
-        let mut reader = match WavReader::new(Cursor::new(bytes)) {
+        read_by(|| WavReader::new(Cursor::new(bytes)), seed, seeks)
+    }
+
+    #[allow(dead_code)] // The package reads ahead there.
+    pub fn read_opened(path: &Path, seed: u64) -> String {
+        read_by(|| WavReader::open(path), seed, true)
+    }
+
+    fn read_by<R: Read + Seek>(open: impl Fn() -> Result<WavReader<R>>, seed: u64, seeks: bool) -> String {
+        let mut reader = match open() {
             Ok(reader) => reader,
             Err(error) => return format!("Err {error:?}"),
         };
@@ -78,7 +87,7 @@ both! {
                 4 => show(reader.samples::<Own>().next(), |sample| sample.0.to_string()),
                 11 if seeks => format!("seek {:?} ", reader.seek(time).is_ok()),
                 11 => {
-                    reader = go_anew(bytes, time);
+                    reader = go_anew(open().unwrap(), time);
                     "seek true ".into()
                 }
                 _ if spec.sample_format == SampleFormat::Float => {
@@ -269,9 +278,15 @@ fn main() {
     let count: u64 = std::env::args().nth(1).map_or(300_000, |word| word.parse().unwrap());
     let mut chooser = Chooser::new(88_172_645_463_325_252);
     let mut tally = Tally::default();
+    let folder = if Path::new("/dev/shm").exists() { "/dev/shm".into() } else { std::env::temp_dir() };
+    let path = folder.join(format!("histories-{}.wav", std::process::id()));
     for _ in 0..count {
         let (file, seed) = (file(&mut chooser), chooser.next());
         let package = or_panic(|| by_package::read(&file, seed, true));
+        std::fs::write(&path, &file).unwrap();
+        if or_panic(|| by_package::read_opened(&path, seed)) != package {
+            tally.unexplained(|| format!("the package reads otherwise by open: seed {seed} {file:02x?}"));
+        }
         let by_original = |file: &[u8], seeks| or_panic(|| by_original::read(file, seed, seeks));
         let plain = without_what_is_misread(&file);
         if package.is_none() {
@@ -291,6 +306,7 @@ fn main() {
             });
         }
     }
+    std::fs::remove_file(path).unwrap();
     for _ in 0..count {
         let seed = chooser.next();
         let package = or_panic(|| by_package::write(seed, true));
