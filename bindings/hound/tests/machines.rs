@@ -32,9 +32,9 @@ fn perform(file: &mut Vec<u8>, action: Action, block: &[u8], read: &mut Vec<u8>)
     match action {
         Action::Read(place, count) => {
             *read = file.iter().copied().skip(place as usize).take(count as usize).collect();
-            return format!("read {count} at {place}");
+            format!("read {count} at {place}")
         }
-        Action::Perform(Effect::Sync) => return "sync".into(),
+        Action::Perform(Effect::Sync) => "sync".into(),
         Action::Perform(Effect::Pad(place)) => {
             put(file, place, &[0]);
             format!("pad at {place}")
