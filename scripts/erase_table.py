@@ -85,7 +85,8 @@ REPLACEMENTS = [
     # A block is made where it stays: a struct that holds it would be copied each time that it moves.
     Allowed("writer/block.rt", 1, "bytes: [u8; BLOCK_LENGTH],", "bytes: crate::rattle::Boxed<[u8; BLOCK_LENGTH]>,",
             "A file of few samples takes less time."),
-    Allowed("writer/block.rt", 1, "bytes: [0; BLOCK_LENGTH],", "bytes: crate::rattle::boxed([0; BLOCK_LENGTH]),", "As above."),
+    Allowed("writer/block.rt", 1, "bytes: [0; BLOCK_LENGTH],", "bytes: crate::rattle::boxed([0; BLOCK_LENGTH]),",
+            "As above."),
     # Loops that LLVM makes no vectors of where Rust checks their indices, which the kit's compiler doesn't. In Rattle
     # they count, because the contracts also hold of containers without bytes, of which an iterator over chunks would
     # give none.

@@ -33,7 +33,18 @@ TYPES = {
         "resuming.RepairState",
         "resuming.FoundFile",
     ],
-    "hound_repair": ["look.Damage", "look.Repair"],
+    "hound_repair": [
+        "look.Damage",
+        "look.Repair",
+        "look.SeenHead",
+        "machine.FailedAction",
+        "machine.RepairError",
+        "machine.RepairStep",
+        "machine.Repairing",
+        "stages.Stage",
+        "stages.Task",
+        "stages.Unrepairable",
+    ],
     "hound": ["session.Begin", "session.End", "session.Step"],
 }
 # The definitions whose comments are tables, by the crate that is between the two lines where these stand.

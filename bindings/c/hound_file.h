@@ -264,8 +264,8 @@ static inline const char *hound_file_text(const hound_file *file, int32_t code) 
 enum { HOUND_FILE_FRONT = 4096, HOUND_FILE_SENTENCE = 192 };
 
 /* A sentence on a file of this kind, which isn't read, without its full stop, in this space: what it is, and by what
-   program it becomes one that is read, with as many bits as it may have. FFmpeg 5.1 takes the bytes of RIFX in the other
-   order, and makes noise of them. NULL where hound_kind_text knows no name. */
+   program it becomes one that is read, with as many bits as it may have. FFmpeg 5.1 takes the bytes of RIFX in the
+   other order, and makes noise of them. NULL where hound_kind_text knows no name. */
 static inline const char *hound_file_kind_reason(int32_t kind, char *room) {
     const char *name = hound_kind_text(kind), *command = "ffmpeg -i FILE -c:a pcm_s32le NEW.wav";
     if (!name) return NULL;

@@ -578,7 +578,8 @@ test("errors have the sentences of hound.h", async () => {
 test("an error names what a file is that isn't read, and what to do", async () => {
   const wide = byHand([0, 0, 0, 0, 0, 0, 240, 63], { bits: 64, tag: 3 });
   const folder = await fs.mkdtemp(path.join(os.tmpdir(), "hound-")), name = path.join(folder, "a.wav");
-  const [rifx, by] = ["RIFX, whose numbers have their highest byte first", (codec) => `ffmpeg -i FILE -c:a ${codec} NEW.wav`];
+  const rifx = "RIFX, whose numbers have their highest byte first";
+  const by = (codec) => `ffmpeg -i FILE -c:a ${codec} NEW.wav`;
   for (const [file, code, kind, command] of [
     [byHand([], { tag: 2, bits: 4 }), "BITS_NOT_WHOLE_BYTES", "Microsoft ADPCM", by("pcm_s16le")],
     [byHand([0], { tag: 6, bits: 8 }), "UNSUPPORTED", "A-law", by("pcm_s16le")],

@@ -33,10 +33,18 @@ pub use Rattle.hound_writer.specs.declared.recorder.Recorder.{Recorder}
 pub use Rattle.hound_writer.specs.declared.recorder.RecorderError.{RecorderError}
 pub use Rattle.hound_writer.specs.declared.resuming.RepairState.{RepairState}
 pub use Rattle.hound_writer.specs.declared.resuming.FoundFile.{FoundFile}
-pub use Rattle.hound_repair.specs.{are_right, begins_chunk, broadcast_tags, counts_all, frame_length, frames_held, has_tag, held, if_some, is_printable, known_tags, mended, metadata_tags, missing_pad, program_tags, riff_tags, right_length, said_length, shown_length, torn_bytes, update_tags, AreRightSizes, Finds, FindsDamage, HasRightLength, HasUnfitHead, IsFoundAt, IsNoPad, IsNotFound, IsRepairFault, IsSame, IsSoundDamage, LacksRoom, LeavesFor, Looks, ReadsFrames, Repairs, RepairsBytes, UnlessFollowed, as_medium, found_length, frames_found, is_mended, repair_of, shown_of, state_of, torn_found, unfollowed_state, whole_frames, AreEnough, AsksAfter, AsksEffect, AsksMore, AsksNext, AsksOfLook, AsksPart, IsAsked, IsAtChunk, IsAtEnd, IsAtStage, IsFoundAs, IsFoundFrom, IsLengthOf, IsLookFrom, IsLookOf, IsLookedAt, IsMeasured, IsNotFollowed, IsNotRepaired, IsRejectedFor, IsRepair, IsSameHead, IsSearched, IsShown, IsSoundHead, IsSoundLook, IsSoundRepairStep, IsSoundRepairing, IsSoundStage, IsUnfollowed, LeavesPartly, LooksTo, MeasuresTo, Mends, MendsAtEach, MendsMedium, MendsThroughLoss, PartlyMended, PerformedOn, PerformsOn, PerformsRepair, Remeasures, RepairsMedium, StageNearer, StaysAt, StaysWith, SurvivesMending, WhereFound, WhereRead, asked_count, asks_for, effects_left, effects_of_task, effects_where, else_followed, failure_of, followed, has_all, has_right, head_of, looks_for_chunks, mending, mending_effects, mends_for, pads, rejected_for, stage_place, steps_left, tagged}
+pub use Rattle.hound_repair.specs.{are_right, begins_chunk, broadcast_tags, counts_all, frame_length, frames_held, has_tag, held, if_some, is_printable, is_sample, known_tags, mended, metadata_tags, missing_pad, program_tags, riff_tags, right_length, said_length, shown_length, torn_bytes, update_tags, AreRightSizes, Finds, FindsDamage, HasRightLength, HasUnfitHead, IsFoundAt, IsNoPad, IsNotFound, IsRepairFault, IsSame, IsSoundDamage, LacksRoom, LeavesFor, Looks, ReadsFrames, Repairs, RepairsBytes, UnlessFollowed, as_medium, found_length, frames_found, is_mended, repair_of, shown_of, state_of, torn_found, unfollowed_state, whole_frames, AreEnough, AsksAfter, AsksEffect, AsksMore, AsksNext, AsksOfLook, AsksPart, IsAsked, IsAtChunk, IsAtEnd, IsAtStage, IsFoundAs, IsFoundFrom, IsLengthOf, IsLookFrom, IsLookOf, IsLookedAt, IsMeasured, IsNotFollowed, IsNotRepaired, IsRejectedFor, IsRepair, IsSearched, IsShown, IsSoundHead, IsSoundLook, IsSoundRepairStep, IsSoundRepairing, IsSoundStage, IsUnfollowed, LeavesPartly, LooksTo, MeasuresTo, Mends, MendsAtEach, MendsMedium, MendsThroughLoss, PartlyMended, PerformedOn, PerformsOn, PerformsRepair, Remeasures, RepairsMedium, StageNearer, StaysAt, StaysWith, SurvivesMending, WhereFound, WhereRead, asked_count, asks_for, effects_left, effects_of_task, effects_where, else_followed, failure_of, followed, has_all, has_right, head_of, looks_for_chunks, mending, mending_effects, mends_for, pads, rejected_for, stage_place, steps_left, tagged, DoesFor, IsFoundIn, IsMidway, IsPartlyRepaired, IsRequest, IsTried, IsUnderRepair, contents_after, first_stage}
 unfoldable pub use Rattle.hound_repair.specs.{are_at_most, are_chunks, chunk_content, data_held, ends_with_id3, ends_with_pad, has_known_tag, has_pad, is_followed, uncounted, repair_fault, size_fault}
 pub use Rattle.hound_repair.specs.declared.look.Damage.{Damage}
 pub use Rattle.hound_repair.specs.declared.look.Repair.{Repair}
+pub use Rattle.hound_repair.specs.declared.look.SeenHead.{SeenHead}
+pub use Rattle.hound_repair.specs.declared.machine.FailedAction.{FailedAction}
+pub use Rattle.hound_repair.specs.declared.machine.RepairError.{RepairError}
+pub use Rattle.hound_repair.specs.declared.machine.RepairStep.{RepairStep}
+pub use Rattle.hound_repair.specs.declared.machine.Repairing.{Repairing}
+pub use Rattle.hound_repair.specs.declared.stages.Stage.{Stage}
+pub use Rattle.hound_repair.specs.declared.stages.Task.{Task}
+pub use Rattle.hound_repair.specs.declared.stages.Unrepairable.{Unrepairable}
 pub use Rattle.hound.specs.Headline.{BeginInOrder, CanonicalAtEnd, CountedAfterLoss, CountedAtEach, FlushedByFlushes, FrontAtEach, FrontInWrites, HasPublished, HasWholeLength, HeadAtEach, Holds, HoldsAtEnd, IfBegun, IsLeftAfter, IsUncut, Keeps, Kept, KeptAfterLoss, KeptWithin, LastsToEnd, LeftWithin, LosesNothing, MixedInPatches, NeverLess, NoFault, OldOrNewInPatches, Promises, PublishedByFlushes, SaidByFlushes, SaysFrames, StoredAtEach, SurvivesAtEnd, accepted, accepted_as_seen, accepted_by_all, accepted_of, begins_at, contents_at, seen}
 pub use Rattle.hound.specs.Run.{AnswersAll, AnswersCall, AnswersSession, AnswersStep, BeginsAs, EndsAs, IsNotBegunAs, IsReturned, IsSession, Ran, RunsFrom, RunsOn, RunsOnce, RunsUntil, StopsAt, StopsEarly, Takes, accepted_by, accepted_by_steps, all_steps, asked_by, batch_containers, begun_spec, containers_of, end_call, file_of, is_int, is_sixteen, writer_after}
 pub use Rattle.hound.specs.Ending.{actions_left, cuts_left, left_in}

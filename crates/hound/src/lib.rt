@@ -15,7 +15,7 @@
 //!
 //! To mend a file whose recording was cut off: [`repair_file`], or [`repair`] in any medium; [`find_damage_in_file`]
 //! and [`find_damage`] only look; [`repair_file_to_end`] and [`repair_to_end`] take all after the data header for
-//! samples.
+//! samples. A caller who reads and writes the file itself asks [`repair_next`] what to do.
 //!
 //! A recorder that needs to know which samples were accepted calls a whole run at once:
 //!
@@ -78,9 +78,11 @@ pub use hound_reader::{
     written_is_read,
 };
 pub use hound_repair::{
-    Damage, Repair, a_look_finds_what_a_repair_does, a_repair_keeps_stored_samples,
-    a_second_repair_writes_nothing, a_stopped_repair_is_done_again, effects_mend, find_damage,
-    find_damage_in_file, repair, repair_file, repair_file_to_end, repair_to_end,
+    Damage, FailedAction, Repair, RepairError, RepairStep, Repairing, SeenHead, Stage, Task,
+    Unrepairable, a_look_finds_what_a_repair_does, a_repair_ends, a_repair_keeps_stored_samples,
+    a_repairer_repairs, a_second_repair_writes_nothing, a_stopped_repair_is_done_again,
+    effects_mend, find_damage, find_damage_in_file, part_at, repair, repair_file,
+    repair_file_to_end, repair_next, repair_to_end,
 };
 pub use hound_sample::{
     Decode, FloatBits, Sample, change_bits, float_to_int, i16s_are_kept, int_to_float,

@@ -16,3 +16,4 @@ pub mod ByEffects
 pub mod Found
 pub mod Lost
 pub mod Ending
+pub mod Driving

@@ -16,6 +16,7 @@ use Rattle.hound_writer.specs.declared.effects.Effect.TheVariants.{Sync, Pad, Si
 use Rattle.hound_writer.proofs.Patching.{sizes_put}
 use Rattle.hound_writer.proofs.Sizes.{field_riff, same_length, same_riff, same_transitive}
 use Rattle.hound_repair.specs.Held.{held, mended, missing_pad}
+use Rattle.hound_repair.specs.Driving.{contents_after}
 use Rattle.hound_repair.specs.Steps.{Mends, PartlyMended, PerformedOn, PerformsOn, mending_effects, pads}
 
 -- the bytes of a number are bytes
@@ -278,6 +279,16 @@ module _ (keeps : Bool) (start n : ℕ) (c : List ℕ) (beyond : 20 ≤ start) (
       (partly_riff 4 (omega arith), (partly_length, (partly_sizes, allowed_pads m refl))),
     ),
   )
+
+  -- and once all of them were performed, mended
+  done_pads : (pad : List ℕ) → m ≡ pad → contents_after (pads (start + h) pad) x ≡ mended start n c
+  done_pads [] is = grind (arith, common_steps, append-nil, x_is)
+  done_pads (b ∷ more) is =
+      let zero_is : m ≡ 0 ∷ [] = m_zero (subst (λ l. 1 ≤ length l) (sym is) (omega arith)) in
+      overlay_at_end x (start + h) (0 ∷ []) x_long ∙ ap (λ l. x ++ l) (sym zero_is) ∙ ap (λ l. l ++ m) x_is
+
+  pub done_all : contents_after (mending_effects start n h) c ≡ mended start n c
+  done_all = done_pads m refl
 
 -- what effects did to a log they did to its state
 pub on_log : (effects : List Effect) (result : Result (Unit {0}) IoFault) (old new : Log)

@@ -15,10 +15,14 @@ frame_length s = s.spec.channels * s.bytes_per_sample
 abbrev pub held : ℕ → List ℕ → ℕ
 held start contents = length (drop start contents)
 
--- how many bytes of samples the bytes after the data are that the header counts: a single one that isn't 0 is no pad
--- byte (RIFF, "Chunks")
+-- whether the bytes after the data that the header counts are a sample: a single one that isn't 0 is no pad byte (RIFF,
+-- "Chunks")
+abbrev pub is_sample : List ℕ → Bool
+is_sample bytes = (length bytes == 1) && nat_lt 0 (slice_index bytes 0)
+
+-- how many bytes of samples they are
 unfoldable pub uncounted : List ℕ → ℕ
-uncounted bytes = if (length bytes == 1) && nat_lt 0 (slice_index bytes 0) then 1 else 0
+uncounted bytes = if is_sample bytes then 1 else 0
 
 -- the data length that a file shows whose header says this one, by the byte after it
 abbrev pub shown_length : ℕ → ℕ → List ℕ → ℕ

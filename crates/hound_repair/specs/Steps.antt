@@ -12,7 +12,7 @@ use Rattle.hound_writer.specs.{AppendFault, IsIoError, NamesFault, PutsAt, PutsN
 use Rattle.hound_writer.specs.declared.effects.Effect.{Effect}
 use Rattle.hound_writer.specs.declared.effects.Effect.TheVariants.{Sync, Pad, Size}
 use Rattle.hound_repair.specs.Repairing.{FindsDamage, IsSoundDamage, repair_of, shown_of, HasUnfitHead, IsFoundAt, IsRepairFault, Repairs, found_length, is_mended, repair_fault, state_of, unfollowed_state}
-use Rattle.hound_repair.specs.Held.{are_chunks, are_right, begins_chunk, counts_all, ends_with_id3, held, is_followed, mended, missing_pad, shown_length}
+use Rattle.hound_repair.specs.Held.{are_chunks, are_right, begins_chunk, counts_all, ends_with_id3, held, is_followed, is_sample, mended, missing_pad, shown_length}
 use Rattle.hound_repair.specs.declared.look.Damage.{Damage}
 use Rattle.hound_repair.specs.declared.look.Repair.{Repair}
 use Rattle.hound_writer.specs.declared.resuming.RepairState.{RepairState}
@@ -187,14 +187,15 @@ abbrev pub IsSoundLook : LookStep → Type 0
 IsSoundLook (Next stage) = IsSoundStage stage
 IsSoundLook (Found d) = IsSoundDamage d
 
--- how many parts a look at a file of so many bytes may still ask for
+-- How many parts a look at a file of so many bytes may still ask for: a chunk after the data has at least eight bytes,
+-- and they are looked for twice, with a pad byte before them and without.
 abbrev pub steps_left : ℕ → Stage → ℕ
 steps_left n (stages.Size head) = 1
 steps_left n (stages.Tag head) = 2
-steps_left n (stages.Chunk head place false) = 3 + (n - place)
-steps_left n (stages.Chunk head place true) = 4 + n + (n - place)
-steps_left n (stages.Last head) = 5 + n + n
-steps_left n (stages.Head walk) = 6 + n + n + parts_left walk.part walk.taken
+steps_left n (stages.Chunk head place false) = 3 + (n - place) / 8
+steps_left n (stages.Chunk head place true) = 4 + n / 8 + (n - place) / 8
+steps_left n (stages.Last head) = 5 + n / 8 + n / 8
+steps_left n (stages.Head walk) = 6 + n / 8 + n / 8 + parts_left walk.part walk.taken
 
 abbrev pub StageNearer : ℕ → ℕ → LookStep → Type 0
 StageNearer n left (Next stage) = steps_left n stage < left
@@ -208,15 +209,11 @@ head_of (stages.Chunk head place padded) = Some head
 head_of (stages.Tag head) = Some head
 head_of (stages.Size head) = Some head
 
--- a head that is known later is the same one, but for whether a sample follows the data
-abbrev pub IsSameHead : SeenHead → SeenHead → Type 0
-IsSameHead head later = (later.spec_ex ≡ head.spec_ex) × (later.data_length ≡ head.data_length)
-    × (later.data_start ≡ head.data_start)
-
-abbrev pub StaysWith : Stage → Stage → Type 0
-StaysWith (stages.Head walk) next = ⊤
-StaysWith (stages.Last head) next = (later : SeenHead) × (head_of next ≡ Some later) × IsSameHead head later
-StaysWith stage next = head_of next ≡ head_of stage
+-- a head that is known later is the same one, and by the bytes after the data it is known whether they are a sample
+abbrev pub StaysWith : List ℕ → Stage → Stage → Type 0
+StaysWith bytes (stages.Head walk) next = ⊤
+StaysWith bytes (stages.Last head) next = head_of next ≡ Some (record head { has_more = is_sample bytes })
+StaysWith bytes stage next = head_of next ≡ head_of stage
 
 -- what is found of a file of n bytes has the head that was known, and is inside of it; nothing is found before all of
 -- the head is known
@@ -226,9 +223,9 @@ IsFoundFrom n (stages.Last head) d = ⊥
 IsFoundFrom n stage d = (head_of stage ≡ Some d.head) × (d.head.data_start + d.held ≤ n)
 
 -- where a part of a file of n bytes leads a look, whatever was read
-abbrev pub IsLookFrom : ℕ → Stage → LookStep → Type 0
-IsLookFrom n stage (Next next) = StaysWith stage next
-IsLookFrom n stage (Found d) = IsFoundFrom n stage d
+abbrev pub IsLookFrom : ℕ → List ℕ → Stage → LookStep → Type 0
+IsLookFrom n bytes stage (Next next) = StaysWith bytes stage next
+IsLookFrom n bytes stage (Found d) = IsFoundFrom n stage d
 
 -- where a file that was measured leads it
 abbrev pub IsLookOf : Damage → LookStep → Type 0
@@ -440,7 +437,7 @@ AreEnough n stage bytes = min (asked_count stage) (min n (2 ^ 33) - stage_place 
 abbrev pub AsksPart : Task → ℕ → List ℕ → Stage → Repairing → Result RepairStep RepairError → Type 0
 AsksPart task n bytes stage new (Ok ask) = AreEnough n stage bytes
     × (((next : Stage) × (new ≡ states.Looks next) × (ask ≡ Asks (asks_for next n))
-    × (steps_left n next < steps_left n stage) × StaysWith stage next
+    × (steps_left n next < steps_left n stage) × StaysWith bytes stage next
     × WhereRead task n bytes stage (λ file. IsAtStage (looks_for_chunks task) file next))
     ⊎ ((d : Damage) × IsSoundDamage d × IsFoundFrom n stage d × AsksEffect task d 0 ask new
     × WhereRead task n bytes stage (λ file.

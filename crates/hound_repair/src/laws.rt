@@ -1,22 +1,32 @@
 // What holds of every repair.
-ghost use Rattle.std.specs.Prelude.{◌≡◌, ◌-◌, ◌/◌, ◌<◌, ◌≤◌, ◌⊎◌, ℕ, Bool, true, not, IsTrue, List, None, Ok, Result, length};
+ghost use Rattle.std.specs.Prelude.{◌≡◌, ◌+◌, ◌-◌, ◌/◌, ◌<◌, ◌≤◌, ◌⊎◌, ℕ, Bool, true, not, IsTrue, List, None, Ok, Err, Result, length};
 ghost use Rattle.std.specs.List.{concat, AllByRecursion};
 ghost use Rattle.hound_medium.specs.{MediumState, Span};
 ghost use Rattle.hound_durable.specs.{SurvivesLoss};
-ghost use Rattle.hound_walk.specs.{Head, IsSoundSpec};
+ghost use Rattle.hound_number.specs.{AreBytes};
+ghost use Rattle.hound_walk.specs.{Head, IsSoundSpec, parts_left};
+ghost use Rattle.hound_walk.specs.declared.parts.Part.TheVariants.{Front};
 ghost use Rattle.hound_spec.specs.declared.error.Error.{Error};
 ghost use Rattle.hound_spec.specs.declared.spec.WavSpecEx.{WavSpecEx};
-ghost use Rattle.hound_writer.specs.{IsIoError, IsStored, Log, Performed, field};
+ghost use Rattle.hound_writer.specs.{IsIoError, IsStored, Log, Performed, PutsNothing, field};
 ghost use Rattle.std.specs.declared.io.Error.{Error as IoFault};
 ghost use Rattle.hound_repair.specs.declared.look.Damage.{Damage};
 ghost use Rattle.hound_writer.specs.declared.effects.Action.{Action};
-ghost use Rattle.hound_writer.specs.declared.effects.Report.TheVariants.{Done};
-ghost use Rattle.hound_repair.specs.declared.machine.RepairStep.TheVariants.{Asks};
+ghost use Rattle.hound_writer.specs.declared.effects.Report.{Report};
+ghost use Rattle.hound_writer.specs.declared.effects.Report.TheVariants.{Done, Failed, Pending};
+ghost use Rattle.hound_repair.specs.declared.machine.FailedAction.{FailedAction};
+ghost use Rattle.hound_repair.specs.declared.machine.RepairError.{RepairError};
+ghost use Rattle.hound_repair.specs.declared.machine.RepairError.TheVariants as errors;
+ghost use Rattle.hound_repair.specs.declared.machine.RepairStep.{RepairStep};
+ghost use Rattle.hound_repair.specs.declared.machine.RepairStep.TheVariants.{Asks, Found};
 ghost use Rattle.hound_repair.specs.declared.machine.Repairing.{Repairing};
+ghost use Rattle.hound_repair.specs.declared.machine.Repairing.TheVariants as states;
 ghost use Rattle.hound_repair.specs.declared.stages.Task.{Task};
-ghost use Rattle.hound_repair.specs.Steps.{AsksNext, effects_left, IsLookedAt, IsNotRepaired, Mends, PartlyMended, mending};
+ghost use Rattle.hound_repair.specs.declared.stages.Unrepairable.{Unrepairable};
+ghost use Rattle.hound_repair.specs.Driving.{DoesFor, IsPartlyRepaired, IsRequest, IsUnderRepair, first_stage};
+ghost use Rattle.hound_repair.specs.Steps.{AsksNext, IsLengthOf, IsRejectedFor, IsRepair, asks_for, effects_left, IsLookedAt, IsNotRepaired, Mends, PartlyMended, looks_for_chunks, mending, mends_for};
 ghost use Rattle.hound_repair.specs.Held.{frame_length, held, mended, shown_length};
-ghost use Rattle.hound_repair.specs.Repairing.{Finds, IsFoundAt, IsNoPad, ReadsFrames, Repairs, found_length, is_mended, repair_fault};
+ghost use Rattle.hound_repair.specs.Repairing.{Finds, IsFoundAt, IsNoPad, LeavesFor, repair_of, ReadsFrames, Repairs, found_length, is_mended, repair_fault};
 ghost use Rattle.hound_repair.specs.declared.look.Repair.{Repair};
 ghost use Rattle.hound_writer.specs.declared.resuming.RepairState.TheVariants.{AllCounted, HasChunksAfterData, Whole};
 
@@ -107,9 +117,62 @@ pub fn a_stopped_repair_is_done_again()
         start (held start mid.contents) ≡ None) }
 {}
 
-/// A repair ends: after a report of `Done`, whatever was read, fewer effects are left to be requested, of a file of n
-/// bytes at most some 2 n (`effects_left`). A report of `Failed` ends it at once.
+/// A caller that does what a repair requests ([`repair_next`](crate::repair_next)) repairs the file, whatever fails.
+/// It begins with a file of so many bytes (`begins`). As long as there is a request (`requests`), it reads that part
+/// of the file or performs that effect, and reports how that ended (`goes_on`). Where it doesn't report, it may have
+/// done it or not, and the request comes again. If it reports a failure, the repair ends (`fails`).
+///
+/// Once something is found the file is as the task leaves it: as [`repair`](crate::repair) or
+/// [`repair_to_end`](crate::repair_to_end) leaves it (`found`). If the bytes are rejected, they have that fault, and
+/// nothing was written (`rejected`). Wherever else it ends (`failed`) or stops (`stopped`), nothing was written, or
+/// the file is partly mended, and another repair finds the same frames
+/// ([`a_stopped_repair_is_done_again`](crate::a_stopped_repair_is_done_again)).
+pub fn a_repairer_repairs()
+    ensures begins { (task : Task) (n : ℕ) (old : MediumState) →
+        IsUnderRepair task n old (states.Looks first_stage) (Ok (Asks (asks_for first_stage n))) old }
+    ensures goes_on { (keeps : Bool) (task : Task) (n : ℕ) (old mid new : MediumState) (state next : Repairing)
+        (action : Action) (bytes : List ℕ) (report : Report) (answer : Result RepairStep RepairError)
+        → AreBytes old.contents → IsLengthOf n old.contents → IsUnderRepair task n old state (Ok (Asks action)) mid
+        → DoesFor keeps action bytes report mid new → AsksNext task n bytes report state next answer →
+        IsUnderRepair task n old next answer new }
+    ensures fails { (task : Task) (n : ℕ) (old mid : MediumState) (state next : Repairing) (action : Action)
+        (bytes : List ℕ) (answer : Result RepairStep RepairError) → IsLengthOf n old.contents
+        → IsUnderRepair task n old state (Ok (Asks action)) mid → AsksNext task n bytes Failed state next answer →
+        (failure : FailedAction) × (answer ≡ Err (errors.Failed failure)) }
+    ensures requests { (task : Task) (n : ℕ) (old new : MediumState) (state : Repairing) (action : Action)
+        → IsUnderRepair task n old state (Ok (Asks action)) new → IsRequest action }
+    ensures found { (task : Task) (n : ℕ) (old new : MediumState) (state : Repairing) (d : Damage)
+        → IsUnderRepair task n old state (Ok (Found d)) new →
+        IsFoundAt (looks_for_chunks task) old.contents (repair_of d) d.head.data_length d.head.data_start
+        × LeavesFor (mends_for task d.state) (repair_of d) d.head.data_start old new
+        × (IsRepair task → new.faults ≡ old.faults → Repairs (looks_for_chunks task) old (repair_of d) new) }
+    ensures rejected { (task : Task) (n : ℕ) (old new : MediumState) (state : Repairing) (why : Unrepairable)
+        → IsUnderRepair task n old state (Err (errors.Rejected why)) new →
+        IsRejectedFor old.contents why × PutsNothing old new }
+    ensures failed { (task : Task) (n : ℕ) (old new : MediumState) (state : Repairing) (failure : FailedAction)
+        → AreBytes old.contents → IsUnderRepair task n old state (Err (errors.Failed failure)) new →
+        IsPartlyRepaired task old new }
+    ensures stopped { (keeps : Bool) (task : Task) (n : ℕ) (old mid new : MediumState) (state : Repairing)
+        (action : Action) (bytes : List ℕ) (report : Report) → AreBytes old.contents
+        → IsUnderRepair task n old state (Ok (Asks action)) mid → DoesFor keeps action bytes report mid new →
+        IsPartlyRepaired task old new }
+{}
+
+/// A repair ends: after a report of `Done`, whatever was read, fewer effects are left to be requested (`nearer`), and
+/// without a report as many (`again`). A report of `Failed` ends it at once (`ended`), and nothing else ends it with
+/// the error that a call failed (`failed`).
+///
+/// Of a file of n bytes they are at most n / 4, and those that read its header (`bounded`). Of these there may be up to
+/// 2^33, since a header that is handed in may be longer than the file.
 pub fn a_repair_ends()
-    ensures { (task : Task) (n : ℕ) (bytes : List ℕ) (old new : Repairing) (action : Action)
+    ensures nearer { (task : Task) (n : ℕ) (bytes : List ℕ) (old new : Repairing) (action : Action)
         → AsksNext task n bytes Done old new (Ok (Asks action)) → effects_left n new < effects_left n old }
+    ensures again { (task : Task) (n : ℕ) (bytes : List ℕ) (old new : Repairing) (action : Action)
+        → AsksNext task n bytes Pending old new (Ok (Asks action)) → effects_left n new ≡ effects_left n old }
+    ensures ended { (task : Task) (n : ℕ) (bytes : List ℕ) (old new : Repairing) (action : Action)
+        → AsksNext task n bytes Failed old new (Ok (Asks action)) → ⊥ }
+    ensures failed { (task : Task) (n : ℕ) (bytes : List ℕ) (report : Report) (old new : Repairing)
+        (failure : FailedAction) → AsksNext task n bytes report old new (Err (errors.Failed failure)) →
+        (report ≡ Failed) ⊎ (old ≡ states.Failed failure) }
+    ensures bounded { (n : ℕ) → effects_left n (states.Looks first_stage) ≤ n / 4 + parts_left Front 0 + 14 }
 {}

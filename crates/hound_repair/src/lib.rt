@@ -18,9 +18,10 @@ pub use file::{find_damage_in_file, repair_file, repair_file_to_end};
 pub use hound_writer::RepairState;
 pub use laws::{
     a_look_finds_what_a_repair_does, a_repair_ends, a_repair_keeps_stored_samples,
-    a_second_repair_writes_nothing, a_stopped_repair_is_done_again, effects_mend,
+    a_repairer_repairs, a_second_repair_writes_nothing, a_stopped_repair_is_done_again,
+    effects_mend,
 };
 pub use look::{Damage, Repair, SeenHead, find_damage};
 pub use machine::{FailedAction, RepairError, RepairStep, Repairing, repair_next};
-pub use mend::{repair, repair_to_end};
+pub use mend::{part_at, repair, repair_to_end};
 pub use stages::{Stage, Task, Unrepairable};

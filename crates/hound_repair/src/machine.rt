@@ -153,7 +153,8 @@ fn after_part(
 /// are those of the part that was read.
 ///
 /// What is pending is requested again. Where something failed, each later call returns that error. After each report of
-/// `Done` fewer effects are left ([`a_repair_ends`](crate::a_repair_ends)).
+/// `Done` fewer effects are left ([`a_repair_ends`](crate::a_repair_ends)). A caller who does what is requested repairs
+/// the file ([`a_repairer_repairs`](crate::a_repairer_repairs)).
 pub fn repair_next(
     state: &mut Repairing,
     length: u64,

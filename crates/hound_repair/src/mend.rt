@@ -147,8 +147,8 @@ fn repair_by_effects<M: Source + Medium>(medium: M, task: Task) -> Result<(M, Re
 /// More than any RIFF size says: bytes are counted up to here.
 pub(crate) const LIMIT: u64 = 8_589_934_592;
 
-// Fills a buffer with the bytes at a place, fewer only at their end, and returns how many.
-fn part_at<S: Source>(source: &mut S, place: u64, buf: &mut [u8]) -> io::Result<usize>
+/// Fills a buffer with the bytes at a place, fewer only at their end, and returns how many.
+pub fn part_at<S: Source>(source: &mut S, place: u64, buf: &mut [u8]) -> io::Result<usize>
     ensures looks { WhereTells S.tells (Looks result (S.state source.old) (S.state source.new)) }
     ensures within { IfOk result (λ n. n ≤ length buf.old) }
     ensures bytes { WhereTells S.tells (IfOk result (λ n.

@@ -1,6 +1,8 @@
 // Which parts of a file a look at it asks for, and where each leads.
-ghost use Rattle.std.specs.Prelude.{◌≡◌, ℕ, ◌+◌, ◌-◌, ◌≤◌, ◌^◌, Bool, List, Ok, Some, true, IfOk, length, min, nat_le, nat_lt, slice_index, take, drop};
+ghost use Rattle.std.specs.Prelude.{◌≡◌, ℕ, ◌+◌, ◌-◌, ◌/◌, ◌≤◌, ◌^◌, Bool, List, Ok, Some, true, IfOk, length, min, nat_le, take, drop};
 ghost use Rattle.hound_walk.specs.{Head, IsAt, IsDataPlace, IsSoundOption, IsSoundSpec, part_bytes};
+ghost use Rattle.hound_repair.specs.Driving.{first_stage};
+ghost use Rattle.hound_repair.specs.Held.{is_sample};
 ghost use Rattle.hound_repair.specs.Repairing.{IsSoundDamage, unfollowed_state};
 ghost use Rattle.hound_repair.specs.Steps.{AreEnough, IsAsked, IsAtChunk, IsAtEnd, IsAtStage, IsFoundAs, IsLengthOf, IsLookFrom, IsLookOf, IsMeasured, IsNotFollowed, IsSearched, IsSoundHead, IsSoundLook, IsSoundStage, IsUnfollowed, IsShown, LooksTo, MeasuresTo, StageNearer, asked_count, asks_for, head_of, stage_place, looks_for_chunks, mends_for, else_followed, followed, steps_left};
 ghost use Rattle.hound_repair.specs.declared.stages.Stage.TheVariants as stages;
@@ -79,6 +81,7 @@ pub(crate) enum LookStep {
 impl Stage {
     /// What a look at a file asks for first.
     pub fn first() -> Stage
+        ensures is { result ≡ first_stage }
         ensures sound { IsSoundStage result }
         ensures at { (looks : Bool) (file : List ℕ) → IsAtStage looks file result }
     {
@@ -281,7 +284,7 @@ fn after_data(length: u64, task: Task, head: SeenHead) -> Stage
         → IsAtStage (looks_for_chunks task) file result }
     ensures sound { IsSoundStage result }
     ensures of { head_of result ≡ Some head }
-    ensures near { steps_left length result ≤ 4 + length + length }
+    ensures near { steps_left length result ≤ 4 + length / 8 + length / 8 }
 {
     let data_length = head.data_length as u64;
     let place = head.data_start + data_length + data_length % 2;
@@ -298,7 +301,7 @@ fn after_head(length: u64, task: Task, head: FileHead) -> Stage
     ensures at { (file : List ℕ) → IsLengthOf length file → Head file head.spec_ex head.data_length head.data_start
         → IsAtStage (looks_for_chunks task) file result }
     ensures sound { IsSoundStage result }
-    ensures near { steps_left length result ≤ 5 + length + length }
+    ensures near { steps_left length result ≤ 5 + length / 8 + length / 8 }
 {
     let seen = SeenHead {
         spec_ex: head.spec_ex,
@@ -314,7 +317,7 @@ fn after_head(length: u64, task: Task, head: FileHead) -> Stage
 
 // Whether a single byte after the data, which is this if there is one, is a sample.
 fn is_sample(bytes: &[u8]) -> bool
-    ensures { length bytes.now ≡ 1 → result ≡ nat_lt 0 (slice_index bytes.now 0) }
+    ensures { result ≡ is_sample bytes.now }
 {
     bytes.len() == 1 && bytes[0] != 0
 }
@@ -326,7 +329,7 @@ fn take_last(length: u64, task: Task, head: SeenHead, bytes: &[u8]) -> LookStep
         → (bytes.now ≡ take 1 (drop (head.data_start + head.data_length) file))
         → LooksTo (looks_for_chunks task) file (Ok result) }
     ensures sound { IsSoundLook result }
-    ensures from { IsLookFrom length (stages.Last head) result }
+    ensures from { IsLookFrom length bytes.now (stages.Last head) result }
     ensures nearer { StageNearer length (steps_left length (stages.Last head)) result }
 {
     let seen = SeenHead {
@@ -347,7 +350,7 @@ fn take_header(
     ensures leads { (file : List ℕ) → IsLengthOf length file → IsAt file walk → (bytes.now ≡ part_bytes walk file)
         → LooksTo (looks_for_chunks task) file result }
     ensures sound { IfOk result IsSoundLook }
-    ensures from { IfOk result (IsLookFrom length (stages.Head walk)) }
+    ensures from { IfOk result (IsLookFrom length bytes.now (stages.Head walk)) }
     ensures nearer { IfOk result (StageNearer length (steps_left length (stages.Head walk))) }
 {
     match take_part(walk, bytes) {
@@ -382,7 +385,7 @@ pub(crate) fn take_asked(
     ensures sound { IfOk result IsSoundLook }
     ensures nearer { IfOk result (StageNearer length (steps_left length stage)) }
     ensures enough { IfOk result (λ _. AreEnough length stage bytes.now) }
-    ensures from { IfOk result (IsLookFrom length stage) }
+    ensures from { IfOk result (IsLookFrom length bytes.now stage) }
 {
     if !are_enough(length, stage, bytes) {
         return Err(Unrepairable::Head(Cause::Ended));

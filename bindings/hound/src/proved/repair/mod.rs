@@ -15,5 +15,5 @@ pub use bytes::{find_damage_in_bytes, repair_bytes, set_sizes};
 pub use crate::proved::writer::RepairState;
 pub use look::{Damage, Repair, SeenHead, find_damage};
 pub use machine::{FailedAction, RepairError, RepairStep, Repairing, repair_next};
-pub use mend::{repair, repair_to_end};
+pub use mend::{part_at, repair, repair_to_end};
 pub use stages::{Stage, Task, Unrepairable};

@@ -15,7 +15,7 @@ returns-in-Next-clause-leads c =
         refl,
         ap Asks c.action.ensures,
         subst (λ r. IfOk r (StageNearer n (steps_left n c.args.stage))) is c.take_asked.ensures.nearer,
-        subst (λ r. IfOk r (IsLookFrom n c.args.stage)) is c.take_asked.ensures.from,
+        subst (λ r. IfOk r (IsLookFrom n c.args.bytes.now c.args.stage)) is c.take_asked.ensures.from,
         λ file size at read.
             subst (LooksTo (looks_for_chunks c.args.task) file) is (c.take_asked.ensures.leads file size at read),
       ),
@@ -29,7 +29,7 @@ returns-in-Found-clause-leads c =
       inr (
         c.in-Found.damage,
         subst (λ r. IfOk r IsSoundLook) is c.take_asked.ensures.sound,
-        subst (λ r. IfOk r (IsLookFrom c.args.length c.args.stage)) is c.take_asked.ensures.from,
+        subst (λ r. IfOk r (IsLookFrom c.args.length c.args.bytes.now c.args.stage)) is c.take_asked.ensures.from,
         c.ask_for.ensures.asks,
         λ file size at read.
             subst (LooksTo (looks_for_chunks c.args.task) file) is (c.take_asked.ensures.leads file size at read),
