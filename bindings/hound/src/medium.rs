@@ -91,12 +91,10 @@ impl Opened {
         self.wanted = 0;
     }
 
-    /// Begins with samples of a type. If others were read ahead, of so many bytes each, the file goes back before them,
-    /// and the result is how many they are.
+    /// Begins with samples of another type. If some were read ahead, of so many bytes each, the file goes back before
+    /// them, and the result is how many they are.
+    #[inline(never)]
     pub(crate) fn begin(&mut self, sample_type: u8, width: u16) -> u64 {
-        if self.sample_type == sample_type {
-            return 0;
-        }
         let count = (self.end - self.next) as u64;
         self.file.seek_relative(-((count * u64::from(width)) as i64)).expect("the buffer holds them");
         (self.next, self.end, self.sample_type, self.wanted) = (0, 0, sample_type, 1);
@@ -111,6 +109,12 @@ impl<R> Origin<R> {
             Origin::Reader(_) => None,
             Origin::Opened(opened, _) => Some(opened),
         }
+    }
+
+    /// The file, if samples of another type than this one were begun with.
+    #[inline(always)]
+    pub(crate) fn opened_with_others(&mut self, sample_type: u8) -> Option<&mut Opened> {
+        self.opened().filter(|opened| opened.sample_type != sample_type)
     }
 
     /// How many samples were read ahead.

@@ -79,11 +79,14 @@ impl<R: Read> WavReader<R> {
     }
 
     /// Begins with samples of a type, by its number. Others that were read ahead weren't read then.
+    #[inline(always)]
     pub(crate) fn begin(&mut self, sample_type: u8) {
-        let width = self.proved.spec_ex().bytes_per_sample;
-        let count = self.proved.reader.reader.0.opened().map_or(0, |opened| opened.begin(sample_type, width));
-        self.proved.samples_read -= count;
-        self.proved.bytes_read -= count * u64::from(width);
+        let width = self.proved.spec_ex.bytes_per_sample;
+        if let Some(opened) = self.proved.reader.reader.0.opened_with_others(sample_type) {
+            let count = opened.begin(sample_type, width);
+            self.proved.samples_read -= count;
+            self.proved.bytes_read -= count * u64::from(width);
+        }
     }
 
     fn samples_left(&self) -> usize {
