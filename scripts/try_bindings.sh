@@ -328,7 +328,8 @@ overflow-checks = true
 debug-assertions = true
 END
     printf '#include <stdint.h>\n#include <stdio.h>\nuint64_t hound_answer(void);\nint main(void) { return printf("%%016llx\\n", (unsigned long long)hound_answer()) != 17; }\n' > main.c
-    cargo build -q --offline --release && "$cc" main.c target/release/libnostd.a -o main && timeout 60 ./main > here
+    cargo build -q --offline --release --target-dir target && "$cc" main.c target/release/libnostd.a -o main \
+        && timeout 60 ./main > here
 }
 cargo_without_std() {
     cargo test -q --offline --no-default-features --target-dir "$work/target" \
@@ -337,7 +338,7 @@ cargo_without_std() {
 # The same answer in WebAssembly.
 wasm_without_std() { # CARGO
     cd "$work/nostd" && RUSTC=${1%cargo}rustc "$1" build -q --offline --release --target wasm32-unknown-unknown \
-        && timeout 60 node --input-type=module -e \
+        --target-dir target && timeout 60 node --input-type=module -e \
             'import { readFile } from "node:fs/promises"; const { instance } = await WebAssembly.instantiate(await readFile(process.argv[1])); console.log(BigInt.asUintN(64, instance.exports.hound_answer()).toString(16).padStart(16, "0"));' \
             target/wasm32-unknown-unknown/release/nostd.wasm > there && cmp here there
 }
