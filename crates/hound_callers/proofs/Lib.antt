@@ -4,3 +4,4 @@ pub mod Driving
 pub mod Resuming
 pub mod Repeating
 pub mod Mending
+pub mod Requesting
