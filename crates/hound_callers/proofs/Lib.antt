@@ -5,3 +5,4 @@ pub mod Resuming
 pub mod Repeating
 pub mod Mending
 pub mod Faultless
+pub mod Requesting

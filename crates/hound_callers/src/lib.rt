@@ -7,6 +7,7 @@ mod example;
 mod reading;
 mod recorder;
 mod recording;
+mod repairer;
 mod twelve;
 
 pub use callers::{
@@ -23,4 +24,5 @@ pub use recording::{
     append_blocks, finish_durable, pack_one, publish_and_continue, record, record_at_once,
     record_batch, record_checkpoints, record_steps, write_if_short,
 };
+pub use repairer::repair_by_requests;
 pub use twelve::Twelve;
