@@ -1,8 +1,8 @@
 // The functions of `callers` and `reading`, each run once.
-use hound::{Decode, Source, WavReader, WavWriter};
+use hound::{Decode, Source, Task, WavReader, WavWriter};
 use hound_callers::{
     look_and_repair, open_written, publish, read_block, read_from, read_memory, record_at_once,
-    reopen, sample_at, samples_of, written_and_read,
+    reopen, repair_by_requests, sample_at, samples_of, written_and_read,
 };
 use hound_test_helpers::{
     FOUR_SAMPLES, NO_SAMPLES, empty_tape, name_of_answer, sixteen, tape_of, without_medium,
@@ -92,6 +92,19 @@ fn a_file_is_looked_at_and_repaired(rt: HostRuntime) -> Result<(), Fail> {
     let tape = tape_of(rt.alloc(), CUT_OFF)?;
     let (tape, found) = without_medium(look_and_repair(tape))?;
     assert!(rt; found.frames == 2 && tape.bytes() == STEREO);
+    Ok(())
+}
+
+#[test]
+fn a_file_is_repaired_by_requests(rt: HostRuntime) -> Result<(), Fail> {
+    let mut tape = tape_of(rt.alloc(), CUT_OFF)?;
+    let length = tape.bytes().len() as u64;
+    let lost = [false, true, false, false, false, true, true];
+    let frames = match repair_by_requests(&mut tape, length, Task::Repair, &lost) {
+        Ok(found) => found.frames,
+        Err(_) => 0,
+    };
+    assert!(rt; frames == 2 && tape.bytes() == STEREO);
     Ok(())
 }
 
