@@ -16,8 +16,12 @@ TOP = Path(__file__).resolve().parent.parent.parent
 # Wrong versions: a file, a part of it, and what is in its place.
 WRONG = {
     "no pad byte": ("writer/effects.rs", "data_length % 2 == 1) {", "data_length % 2 == 2) {"),
-    "a sync that failed is forgotten": ("writer/recorder.rs", "self.health = Health::Dead;", ""),
-    "24 bits without a sign": ("number/mod.rs", "high as i8 as i32", "high as i32"),
+    "a sync that failed is forgotten": (
+        "writer/machine.rs",
+        "Effect::Sync => Health::Dead,",
+        "Effect::Sync => Health::Suspect,",
+    ),
+    "24 bits without a sign": ("number/mod.rs", "[middle, high]) as i32", "[middle, high]) as u16 as i32"),
     "a length that overflows": (
         "walk/chunks.rs",
         "chunk_len as u64 + chunk_len as u64 % 2",
@@ -31,6 +35,8 @@ version = "0.0.0"
 edition = "2021"
 [lib]
 crate-type = ["staticlib", "cdylib"]
+[features]
+std = []
 [profile.release]
 panic = "abort"
 lto = true
