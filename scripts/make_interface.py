@@ -177,7 +177,7 @@ def type_python(kind, count):
 
 def structs_python():
     lines = [f"{', '.join(names)} = {', '.join(str(NUMBERS[name]) for name in names)}" for names in (MODES, ALLOWED)]
-    lines += [f"{name} = {NUMBERS[name]}" for name in ("HEADER_BYTES", "KIND_RIFX", "KIND_FLOAT64")]
+    lines += [f"{name} = {NUMBERS[name]}" for name in ("HEADER_BYTES", "NOTHING_NEW", "KIND_RIFX", "KIND_FLOAT64")]
     for name, (fields, _) in STRUCTS.items():
         lines += ["", "", f"class C{camel(name)}(ctypes.Structure):", "    _fields_ = ["]
         lines += [f'        ("{field}", {type_python(kind, count)}),' for field, kind, count, _ in fields] + ["    ]"]

@@ -12,7 +12,7 @@ import re
 import sys
 
 TOP = os.path.dirname(os.path.dirname(os.path.abspath(__file__)))
-LAYERS = ["number", "spec", "sample", "medium", "durable", "walk", "reader", "writer", "repair"]
+LAYERS = ["number", "spec", "sample", "medium", "durable", "walk", "reader", "writer", "repair", "follow"]
 LAYER_CRATES = [f"hound_{layer}" for layer in LAYERS]
 CRATES = LAYER_CRATES + ["hound_slices", "hound_text"]
 # The types of the code that clauses name; those of lower crates are exported by the root.
@@ -45,10 +45,22 @@ TYPES = {
         "stages.Task",
         "stages.Unrepairable",
     ],
+    "hound_follow": [
+        "follower.FollowError",
+        "follower.FollowStep",
+        "follower.Follower",
+        "follower.Look",
+        "follower.Recording",
+    ],
     "hound": ["session.Begin", "session.End", "session.Step"],
 }
 # The definitions whose comments are tables, by the crate that is between the two lines where these stand.
-TABLES = {"hound_writer": ["Recorder", "Resuming"], "hound_repair": ["Steps"], "hound_slices": ["Walks"]}
+TABLES = {
+    "hound_writer": ["Recorder", "Resuming"],
+    "hound_repair": ["Steps"],
+    "hound_slices": ["Walks"],
+    "hound_follow": ["Following"],
+}
 PROVING = "docs/PROVING.md"
 TABLES_BEGIN, TABLES_END = "<!-- made by scripts/make_words.py of {} -->", "<!-- the end of what it makes -->"
 # What is made of a contract and `SampleError` are private.

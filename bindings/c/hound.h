@@ -206,6 +206,37 @@ int64_t hound_whole_frames(const hound_spec *spec, uint64_t length) HOUND_NONNUL
    its first twelve bytes, or HOUND_NO_DATA_CHUNK. It is a guess, since samples may look like this. */
 int64_t hound_guess_data(const uint8_t *file, size_t length) HOUND_NONNULL;
 
+/* A follower of a recording that another program makes: it finds how much of the file can be read by now. It begins as
+   HOUND_FOLLOWER_BEGIN, and requests only reads: the header, until all of it is there, and then the data length, in one
+   look after the other. What it counts stays in the file, so it may be read at any later time, from `data_start` on.
+
+     while ((code = hound_follower_next(&follower)) == 1) perform(&follower.effect);
+
+   is one look; the next call after it begins the next one. A program that may read the four bytes of the length while
+   a recorder writes them can get some bytes of the old length and some of the new one, which together count more than
+   there is. So a follower reads them one by one, from the last to the first, while a recorder writes them from the
+   first on: perform each read by a call of the system of its own, without a buffer that reads ahead. */
+typedef struct {
+    hound_effect effect;
+    uint64_t data_start; /* how many bytes are before the first sample; 0 until all of the header was there */
+    hound_spec spec;     /* of the samples, once `data_start` isn't 0 */
+    uint32_t counted;    /* how many bytes of whole frames the header has counted, at most so far */
+    uint32_t last, above, taken, part, fmt_length, unused; /* for the calls */
+} hound_follower;
+
+#define HOUND_FOLLOWER_BEGIN {{0, 0, 0, 0, {0}}, 0, {0, 0, 0, 0, 0}, 0, 0, 0, 0, 0, 0, 0}
+
+/* What hound_follower_next returns at the end of a look that found nothing new. */
+enum { HOUND_NOTHING_NEW = 2 };
+
+/* Returns 1 for the next read; 0 where the look has found all of the header, or that it counts more whole frames;
+   HOUND_NOTHING_NEW where it has found neither, also where the file ends within the header, as one does that was just
+   made; or an error: why the header isn't read; HOUND_TRUNCATED where the file no longer has its data length;
+   HOUND_TOO_LONG where that is the length of no file, as of a stream whose writer didn't know it; HOUND_NOT_PERFORMED
+   where a read failed. Each of them ends the look, and the next call begins another one. A length that counts fewer
+   frames than one before it, as where a checkpoint was cut off between its bytes, changes nothing. */
+int32_t hound_follower_next(hound_follower *follower) HOUND_NONNULL;
+
 /* Kinds of files whose samples have no number of a format. */
 enum {
     HOUND_KIND_UNKNOWN = 65536,
@@ -556,6 +587,11 @@ HOUND_ASSERT(sizeof(hound_effect) == 56 && offsetof(hound_effect, length) == 8
              && offsetof(hound_effect, bytes) == 16);
 HOUND_ASSERT(sizeof(hound_walk) == 80 && offsetof(hound_walk, spec) == 56 && offsetof(hound_walk, taken) == 68
              && offsetof(hound_walk, part) == 72 && offsetof(hound_walk, fmt_length) == 76);
+HOUND_ASSERT(sizeof(hound_follower) == 104 && offsetof(hound_follower, data_start) == 56
+             && offsetof(hound_follower, spec) == 64 && offsetof(hound_follower, counted) == 76
+             && offsetof(hound_follower, last) == 80 && offsetof(hound_follower, above) == 84
+             && offsetof(hound_follower, taken) == 88 && offsetof(hound_follower, part) == 92
+             && offsetof(hound_follower, fmt_length) == 96 && offsetof(hound_follower, unused) == 100);
 HOUND_ASSERT(sizeof(hound_repairer) == 120 && offsetof(hound_repairer, length) == 56
              && offsetof(hound_repairer, place) == 64 && offsetof(hound_repairer, data_start) == 72
              && offsetof(hound_repairer, spec) == 80 && offsetof(hound_repairer, data_length) == 92

@@ -131,6 +131,8 @@ const LAYOUT = {
     size: 48 },
   effect: { place: 0, length: 8, kind: 12, report: 14, bytes: 16, size: 56 },
   walk: { effect: 0, spec: 56, taken: 68, part: 72, fmtLength: 76, size: 80 },
+  follower: { effect: 0, dataStart: 56, spec: 64, counted: 76, last: 80, above: 84, taken: 88, part: 92,
+    fmtLength: 96, unused: 100, size: 104 },
   repairer: { effect: 0, length: 56, place: 64, dataStart: 72, spec: 80, dataLength: 92, taken: 96, part: 100,
     fmtLength: 104, number: 108, mode: 112, unused: 116, size: 120 },
   recorder: { effect: 0, dataStart: 56, dataLength: 64, number: 68, block: 72, bytesPerSample: 76, channels: 78,

@@ -298,6 +298,7 @@ class Repair(_Held):
 FIND_DAMAGE, REPAIR, REPAIR_TO_END, MAKE_CANONICAL = 0, 1, 2, 3
 MEND, OVERWRITE = 1, 2
 HEADER_BYTES = 68
+NOTHING_NEW = 2
 KIND_RIFX = 65537
 KIND_FLOAT64 = 65545
 
@@ -350,6 +351,21 @@ class CWalk(ctypes.Structure):
         ("taken", ctypes.c_uint32),
         ("part", ctypes.c_uint32),
         ("fmt_length", ctypes.c_uint32),
+    ]
+
+
+class CFollower(ctypes.Structure):
+    _fields_ = [
+        ("effect", CEffect),
+        ("data_start", ctypes.c_uint64),
+        ("spec", CSpec),
+        ("counted", ctypes.c_uint32),
+        ("last", ctypes.c_uint32),
+        ("above", ctypes.c_uint32),
+        ("taken", ctypes.c_uint32),
+        ("part", ctypes.c_uint32),
+        ("fmt_length", ctypes.c_uint32),
+        ("unused", ctypes.c_uint32),
     ]
 
 

@@ -10,7 +10,7 @@ use Rattle.hound_medium.specs.{moment, overlay, MediumState}
 use Rattle.hound_medium.proofs.Overlays.{front_part}
 use Rattle.hound_medium.proofs.Spans.{moment_last}
 use Rattle.hound_durable.specs.{place_of}
-use Rattle.hound_writer.specs.{Ghosts, Asked, Call, Does, Lead, publish, write, with_memory, IsOldOrNew, IsOutside, field, WriterState, IsWhole, accepted_samples, data_length}
+use Rattle.hound_writer.specs.{Ghosts, Asked, Call, Does, Lead, publish, write, with_memory, IsOldOrNew, IsOutside, IsStored, field, WriterState, IsWhole, accepted_samples, data_length}
 use Rattle.hound.specs.Headline.{FrontInWrites, HasPublished, IsUncut, MixedInPatches, NeverLess, OldOrNewInPatches, PublishedByFlushes, accepted_by_all, begins_at}
 use Rattle.hound_writer.proofs.Answers.{where_marked}
 use Rattle.hound_writer.proofs.Sizes.{take_front}
@@ -131,6 +131,7 @@ module _ {W : Type 0} (kind : Ghosts W) (modelled : IsTrue kind.tells) (kept : I
     next_start : next.data_start ≡ old.data_start
     next_whole : IsWhole kind.state next
     all : data_length mid ≡ length (concat (accepted_samples kind.state old ++ accepted_by_all before))
+    accepted : accepted_samples kind.state mid ≡ accepted_samples kind.state old ++ accepted_by_all before
     began : call.began ≡ length (kind.state mid.medium).past
     ended : begins_at after end.past ≡ length (kind.state next.medium).past
     later : Later (kind.state next.medium) end
@@ -157,6 +158,7 @@ module _ {W : Type 0} (kind : Ghosts W) (modelled : IsTrue kind.tells) (kept : I
         next_start = m.here.data_start ∙ w.data_start;
         next_whole = m.here.whole whole;
         all = grind (arith, common_steps, length-concat-append);
+        accepted = w.accepted all_there;
         began = m.began;
         ended = ended;
         later = then;
@@ -212,6 +214,12 @@ module _ {W : Type 0} (kind : Ghosts W) (modelled : IsTrue kind.tells) (kept : I
                     c.start,
                     c.all,
                   ),
+              λ some. let split : p.split < k = omega (arith, some) in
+                  let last : p.split < length (kind.state c.next.medium).past = omega (arith, split, until) in
+                  subst (λ (x : (ℕ × ℕ) × (List (List ℕ) × List ℕ)). IsStored x.0.0 (concat x.1.0) 0 x.0.1 x.1.1)
+                  (λ i. ((c.start i, c.all i), (c.accepted i, c.still k to i)))
+                  (p.all_stored c.whole p.split k p.puts.later last
+                  (omega (arith, p.puts.first last, c.start, beyond)) (omega (arith, split)) until),
             ),
       )
 

@@ -18,3 +18,4 @@ pub mod Begun
 pub mod WholeSessions
 mod InUse
 pub mod Ending
+pub mod Following

@@ -1,6 +1,6 @@
 -- What a list of calls of a writer promises, whatever failed: counted in each state, published at a flush, canonical at
 -- the end.
-use Rattle.std.specs.Prelude.{◌≡◌, ℕ, ◌+◌, ◌-◌, ◌/◌, ◌%◌, ◌<◌, ◌≤◌, ◌⊎◌, ⊤, max, Bool, true, Result, Ok, Err, List, [], ◌∷◌, ◌++◌, length, map, take}
+use Rattle.std.specs.Prelude.{◌≡◌, ℕ, ◌+◌, ◌-◌, ◌*◌, ◌/◌, ◌%◌, ◌<◌, ◌≤◌, ◌⊎◌, ⊤, max, Bool, true, Result, Ok, Err, List, [], ◌∷◌, ◌++◌, length, map, take}
 use Rattle.std.specs.List.{concat, flat_map, AllByRecursion}
 use Rattle.std.specs.Io.{StartsWith}
 use Rattle.hound_spec.specs.declared.error.Error.{Error}
@@ -91,7 +91,7 @@ module _ (s : WavSpecEx) (start : ℕ) (found : List (List ℕ)) (calls : List C
 
   -- In a patch the length field has some low bytes of the new length, that of all accepted samples, and the others from
   -- the old one. Their number never falls, from 0 to 4, and is 4 at the return of an Ok or an `UnfinishedSample`.
-  -- Before the first of them is written, all accepted bytes are there.
+  -- Before the first of them is written, all accepted bytes are there, and stored.
   abbrev pub MixedInPatches : Type 0
   MixedInPatches = (before after : List Call) (patch : Call) →
       calls ≡ before ++ (patch ∷ after) → patch.asked ≡ publish →
@@ -101,7 +101,8 @@ module _ (s : WavSpecEx) (start : ℕ) (found : List (List ℕ)) (calls : List C
       × (HasPublished patch → count (begins_at after medium.past) ≡ 4)
       × ((k : ℕ) → patch.began ≤ k → k ≤ begins_at after medium.past → (field (start - 4) (contents_at k)
       ≡ mix (count k) (field (start - 4) (contents_at patch.began)) new)
-      × (1 ≤ count k → start + new ≤ length (contents_at k)))
+      × (1 ≤ count k → start + new ≤ length (contents_at k))
+      × (1 ≤ count k → IsStored start (concat (accepted before)) 0 new (contents_at k)))
 
   -- So it is the old length or the new one, in each state of a patch in which no write of it is cut.
   abbrev pub OldOrNewInPatches : Type 0
@@ -208,6 +209,11 @@ KeptAfterLoss s start found calls medium =
     (start - 4) / sector ≡ (start - 1) / sector →
     SurvivesLoss sector medium.start medium.past f (length medium.past) contents →
     LosesNothing s start found calls (record medium { flushed = f }) contents
+
+-- the number whose bytes, the low one first, are that of the first number, the second one of the next, and so on
+abbrev pub one_by_one : ℕ → ℕ → ℕ → ℕ → ℕ
+one_by_one a b c d =
+    a % 256 + 256 * (b / 256 % 256 + 256 * (c / 256 / 256 % 256 + 256 * (d / 256 / 256 / 256 % 256)))
 
 -- What calls promise of a medium that records every byte written, in each of its states since the first of them; the
 -- last state is the medium as it is now.

@@ -45,7 +45,7 @@ pub use Rattle.hound_repair.specs.declared.machine.Repairing.{Repairing}
 pub use Rattle.hound_repair.specs.declared.stages.Stage.{Stage}
 pub use Rattle.hound_repair.specs.declared.stages.Task.{Task}
 pub use Rattle.hound_repair.specs.declared.stages.Unrepairable.{Unrepairable}
-pub use Rattle.hound.specs.Headline.{BeginInOrder, CanonicalAtEnd, CountedAfterLoss, CountedAtEach, FlushedByFlushes, FrontAtEach, FrontInWrites, HasPublished, HasWholeLength, HeadAtEach, Holds, HoldsAtEnd, IfBegun, IsLeftAfter, IsUncut, Keeps, Kept, KeptAfterLoss, KeptWithin, LastsToEnd, LeftWithin, LosesNothing, MixedInPatches, NeverLess, NoFault, OldOrNewInPatches, Promises, PublishedByFlushes, SaidByFlushes, SaysFrames, StoredAtEach, SurvivesAtEnd, accepted, accepted_as_seen, accepted_by_all, accepted_of, begins_at, contents_at, seen}
+pub use Rattle.hound.specs.Headline.{BeginInOrder, CanonicalAtEnd, CountedAfterLoss, CountedAtEach, FlushedByFlushes, FrontAtEach, FrontInWrites, HasPublished, HasWholeLength, HeadAtEach, Holds, HoldsAtEnd, IfBegun, IsLeftAfter, IsUncut, Keeps, Kept, KeptAfterLoss, KeptWithin, LastsToEnd, LeftWithin, LosesNothing, MixedInPatches, NeverLess, NoFault, OldOrNewInPatches, Promises, PublishedByFlushes, SaidByFlushes, SaysFrames, StoredAtEach, SurvivesAtEnd, accepted, accepted_as_seen, accepted_by_all, accepted_of, begins_at, contents_at, one_by_one, seen}
 pub use Rattle.hound.specs.Run.{AnswersAll, AnswersCall, AnswersSession, AnswersStep, BeginsAs, EndsAs, IsNotBegunAs, IsReturned, IsSession, Ran, RunsFrom, RunsOn, RunsOnce, RunsUntil, StopsAt, StopsEarly, Takes, accepted_by, accepted_by_steps, all_steps, asked_by, batch_containers, begun_spec, containers_of, end_call, file_of, is_int, is_sixteen, writer_after}
 pub use Rattle.hound.specs.Ending.{actions_left, cuts_left, left_in}
 pub mod Headline

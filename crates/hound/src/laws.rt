@@ -1,5 +1,5 @@
 // What holds for every run.
-ghost use Rattle.std.specs.Prelude.{◌≡◌, ◌<◌, ◌≤◌, ◌-◌, ◌/◌, ◌%◌, ℕ, Bool, true, IsTrue, List, [], ◌∷◌, ◌++◌, ◌&&◌, Ok, Option, Some, Result, is_ok, length, map};
+ghost use Rattle.std.specs.Prelude.{◌≡◌, ◌<◌, ◌≤◌, ◌+◌, ◌-◌, ◌/◌, ◌%◌, ℕ, Bool, true, IsTrue, List, [], ◌∷◌, ◌++◌, ◌&&◌, Ok, Option, Some, Result, is_ok, length, map};
 ghost use Rattle.std.specs.List.{AllByRecursion, concat};
 ghost use Rattle.std.specs.declared.io.Error.{Error as IoFault};
 ghost use Rattle.hound_spec.specs.declared.error.Error.{Error};
@@ -9,7 +9,7 @@ ghost use Rattle.hound_number.specs.{mix};
 ghost use Rattle.hound_medium.specs.{MediumState, WhereKeeps, WhereTells, moment, overlay};
 ghost use Rattle.hound_durable.specs.{Ascends, SurvivesLoss, place_of};
 ghost use Rattle.hound_sample.specs.{Rejection, int_container};
-ghost use Rattle.hound_writer.specs.{Advances, mark_of, AcceptAnswer, AcceptsBytes, ChangesSizesOnly, appended, AcceptsEach, i16_bytes, AreKnown, Asked, Begun, Call, IsKnown, Known, Lead, Left, Recorded, returned, sample_count, asked_by_all, found_in, made, marked, new_file, publish, start_of, IsSameFile, Finishes, WriterState, IsWhole, accepted_samples, data_length, IsSound, CountsAtMost, LeavesWriter, PutsAt, ReadsAs, field, Log, Performed, handed_in, log_kind, Directed, IsSynced, AgreeTo, Counts, end_of, IsCutOff, DoesBeginnings, LeavesBeginning, Remains, Resumes, beginning, effects_of, stores_name, writer_of};
+ghost use Rattle.hound_writer.specs.{Advances, mark_of, AcceptAnswer, AcceptsBytes, ChangesSizesOnly, appended, AcceptsEach, i16_bytes, AreKnown, Asked, Begun, Call, IsKnown, Known, Lead, Left, Recorded, returned, sample_count, asked_by_all, found_in, made, marked, new_file, publish, start_of, IsSameFile, Finishes, WriterState, IsWhole, accepted_samples, data_length, IsSound, CountsAtMost, LeavesWriter, PutsAt, ReadsAs, field, Log, Performed, handed_in, log_kind, Directed, IsSynced, AgreeTo, Counts, end_of, IsCutOff, IsStored, DoesBeginnings, LeavesBeginning, Remains, Resumes, beginning, effects_of, stores_name, writer_of};
 ghost use Rattle.hound_writer.specs.declared.recorder.Recorder.{Recorder};
 ghost use Rattle.hound_writer.specs.declared.resuming.FoundFile.{FoundFile};
 ghost use Rattle.hound_writer.specs.declared.effects.Action.{Action};
@@ -23,7 +23,7 @@ ghost use Rattle.hound.specs.declared.session.Begin.TheVariants.{New};
 ghost use Rattle.hound.specs.declared.session.Begin.{Begin};
 ghost use Rattle.hound.specs.declared.session.End.{End};
 ghost use Rattle.hound.specs.Ending.{actions_left};
-ghost use Rattle.hound.specs.Headline.{HasPublished, Holds, HoldsAtEnd, IsLeftAfter, Keeps, Kept, KeptWithin, LeftWithin, accepted_as_seen, accepted_by_all, begins_at, seen};
+ghost use Rattle.hound.specs.Headline.{HasPublished, Holds, HoldsAtEnd, IsLeftAfter, Keeps, Kept, KeptWithin, LeftWithin, accepted_as_seen, accepted_by_all, begins_at, one_by_one, seen};
 ghost use Rattle.hound.specs.Run.{BeginsAs, EndsAs, Ran, asked_by, containers_of, RunsOn, all_steps};
 
 use crate::session::Step;
@@ -258,4 +258,29 @@ pub fn a_request_ends()
     ensures again { (old new : Recorder) (action : Action) → Advances Pending old new (Ok (Some action))
         → actions_left new ≤ actions_left old }
     ensures bounded { (r : Recorder) → actions_left r ≤ 11 }
+{}
+
+/// What a program reads that follows a recording while another one makes it. It takes the length in one state of the
+/// medium, and the bytes that this counts in later ones, in pieces of any size: each of them is that of the accepted
+/// samples (`reads`), of which so many bytes were accepted (`counted`). So what it has stays right whatever calls and
+/// faults come between, and what a greater length counts begins with it.
+///
+/// So it is also where the length's four bytes are taken in four states, the last byte first (`torn`): a system that
+/// reads four bytes at once may mix those of two lengths, in any order, and count more than was accepted.
+pub fn a_follower_reads_accepted_samples()
+    ensures counted { (s : WavSpecEx) (file : Begun) (calls : List Call) (m : MediumState) → Keeps s file calls m
+        → (k : ℕ) → begins_at calls m.past ≤ k → k ≤ length m.past →
+        field (start_of s file - 4) (moment m.start m.past k)
+        ≤ length (concat (found_in file ++ accepted_by_all calls)) }
+    ensures reads { (s : WavSpecEx) (file : Begun) (calls : List Call) (m : MediumState) → Keeps s file calls m
+        → (k later a len : ℕ) → begins_at calls m.past ≤ k → k ≤ later → later ≤ length m.past
+        → a + len ≤ field (start_of s file - 4) (moment m.start m.past k) →
+        IsStored (start_of s file) (concat (found_in file ++ accepted_by_all calls)) a len
+        (moment m.start m.past later) }
+    ensures torn { (s : WavSpecEx) (file : Begun) (calls : List Call) (m : MediumState) → Keeps s file calls m
+        → (k3 k2 k1 k0 later a len : ℕ) → begins_at calls m.past ≤ k3 → k3 ≤ k2 → k2 ≤ k1 → k1 ≤ k0 → k0 ≤ later
+        → later ≤ length m.past → let says = λ (k : ℕ). field (start_of s file - 4) (moment m.start m.past k) in
+        a + len ≤ one_by_one (says k0) (says k1) (says k2) (says k3) →
+        IsStored (start_of s file) (concat (found_in file ++ accepted_by_all calls)) a len
+        (moment m.start m.past later) }
 {}

@@ -97,11 +97,11 @@ pub use hound_writer::{
     put_all_at,
 };
 pub use laws::{
-    a_batch_is_its_values, a_checkpoint_holds, a_recording_is_kept,
-    a_repair_loses_no_published_sample, a_request_ends, a_run_leaves_its_calls,
-    a_write_is_marked_by_its_ok, a_writer_holds_its_calls, an_append_keeps_the_front,
-    an_ok_flush_is_kept, calls_are_a_run, sessions_leave_one_file, what_a_loss_leaves,
-    what_is_kept, what_is_known,
+    a_batch_is_its_values, a_checkpoint_holds, a_follower_reads_accepted_samples,
+    a_recording_is_kept, a_repair_loses_no_published_sample, a_request_ends,
+    a_run_leaves_its_calls, a_write_is_marked_by_its_ok, a_writer_holds_its_calls,
+    an_append_keeps_the_front, an_ok_flush_is_kept, calls_are_a_run, sessions_leave_one_file,
+    what_a_loss_leaves, what_is_kept, what_is_known,
 };
 pub use runs::{run_session, run_sessions};
 pub use session::{Begin, End, Step};

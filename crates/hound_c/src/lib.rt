@@ -13,19 +13,19 @@ ghost use Rattle.hound_sample.specs.{double_of_int, float_of_int, int_container,
 ghost use Rattle.hound_spec.specs.declared.spec.SampleFormat.TheVariants.{Float, Int};
 ghost use Rattle.hound_walk.specs.declared.cause.Cause.{Cause};
 ghost use Rattle.hound_writer.specs.{Advances, AsksForBlock, AsksForCheckpoint, BeginsRecorder, LeavesRoom, Resumes};
-ghost use Rattle.hound_slices.specs.{AppendsInPlace, BeginsForC, BeginsRepairer, CountsWhole, Decodes, Encodes, EncodesFloats, FindsInFile, GivesBeginning, GivesFiller, GivesHeader, GivesSizes, GuessesData, HasRecorderNumbers, IsDamageError, IsExplicit, IsKind, MakesContainer, NarrowsFloats, ReadsInto, Records, RepairsFile, Returns, Sizes, StepsRepairer, TakesNumbers, TakesPart, WidensFloats, WritesFile, effect_of, error_code, found_file, mends, overwrites, recorder_of, report_of, spec_from_c};
+ghost use Rattle.hound_slices.specs.{AppendsInPlace, BeginsForC, BeginsRepairer, CountsWhole, Decodes, Encodes, EncodesFloats, FindsInFile, GivesBeginning, GivesFiller, GivesHeader, GivesSizes, GuessesData, HasRecorderNumbers, IsDamageError, IsExplicit, IsKind, MakesContainer, NarrowsFloats, ReadsInto, Records, RepairsFile, Returns, Sizes, StepsFollower, StepsRepairer, TakesNumbers, TakesPart, WidensFloats, WritesFile, effect_of, error_code, found_file, mends, overwrites, recorder_of, report_of, spec_from_c};
 ghost use Rattle.hound_slices.specs.declared.error.CallError.{CallError as AnyError};
 ghost use Rattle.hound_slices.specs.declared.error.CallError.TheVariants.{Head};
 
 use hound_repair::Task;
 use hound_sample::{FloatBits, UnitDouble, UnitFloat};
 use hound_slices::{
-    CallError, HoundEffect, HoundInfo, HoundRecorder, HoundRepair, HoundRepairer, HoundSpec,
+    CallError, HoundEffect, HoundFollower, HoundInfo, HoundRecorder, HoundRepair, HoundRepairer, HoundSpec,
     HoundWalk, append_block, begin_repairer, beginning_for_c, code_of, code_of_error, container_of,
     decode_block, encode_block, encode_floats, encode_with_noise, file_kind, file_size,
     find_file_damage, found_file, guess_data, info_for_c, mends, narrow_floats, overwrites,
-    read_block, recorder_for_c, recorder_of, repair_file, report_of, spec_from_c, step_repairer,
-    step_walk, value_of, whole_frames, widen_floats, write_file, write_filler, write_header,
+    read_block, recorder_for_c, recorder_of, repair_file, report_of, spec_from_c, step_follower,
+    step_repairer, step_walk, value_of, whole_frames, widen_floats, write_file, write_filler, write_header,
     write_sizes,
 };
 use hound_spec::SampleFormat;
@@ -225,6 +225,18 @@ pub extern "C" fn hound_repairer_next(repairer: &mut HoundRepairer, found: &mut 
 {
     match step_repairer(repairer, found) {
         Ok(asks) => asks as i32,
+        Err(error) => code_of_error(error),
+    }
+}
+
+/// Takes how a read of a recording that is followed was reported: 1 for the next read, 0 where the look found more,
+/// 2 where it found nothing new, or why it has ended.
+#[unsafe(no_mangle)]
+pub extern "C" fn hound_follower_next(follower: &mut HoundFollower) -> i32
+    ensures { Returns result (StepsFollower follower.old follower.new) }
+{
+    match step_follower(follower) {
+        Ok(step) => step as i32,
         Err(error) => code_of_error(error),
     }
 }

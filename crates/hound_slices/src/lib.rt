@@ -6,6 +6,7 @@
 
 mod effect;
 mod error;
+mod following;
 mod reading;
 mod recording;
 mod repairer;
@@ -18,6 +19,7 @@ mod writing;
 
 pub use effect::{HoundEffect, beginning_for_c, effect_for_c, report_of};
 pub use error::{CallError, code_of, code_of_error};
+pub use following::{HoundFollower, step_follower};
 pub use reading::{decode_block, read_block};
 pub use recording::{HoundRecorder, found_file, mends, overwrites, recorder_for_c, recorder_of};
 pub use repairer::{HoundRepairer, begin_repairer, find_file_damage, repair_file, step_repairer};

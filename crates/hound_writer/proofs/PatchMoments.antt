@@ -164,6 +164,16 @@ publishes_at_each state w none sound at_most padded small end patched are_frames
           rw (beyond _ (span.each k (omega (arith, from, later)) to).same.beyond) padded;
       there = λ whole i k from more before later to.
           omega (arith, whole, all, (span.each k (omega (arith, from, later)) to).same.long);
+      all_stored = λ whole i k from more before later to.
+          let c = moment (state end).start (state end).past k in
+          let n = w.bytes_written in
+          let zero_more : w.data_start + 0 ≡ w.data_start = omega arith in
+          ap (λ j. take j (drop (w.data_start + 0) c)) (sym all)
+          ∙ ap (λ j. take n (drop j c)) zero_more
+          ∙ samples c (span.each k (omega (arith, from, later)) to).same.beyond
+          ∙ sym (take-take n n (drop w.data_start old) (omega arith))
+          ∙ ap (take n) (sym (concat-samples state w none sound))
+          ∙ ap (λ j. take j (concat (accepted_samples state w))) all;
       stored =
           λ whole. stored_same w.data_start w.bytes_written (concat (accepted_samples state w)) old
           (state w.medium) (state end)

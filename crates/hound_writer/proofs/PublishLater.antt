@@ -13,7 +13,7 @@ use Rattle.hound_medium.proofs.Spans.{join, moment_before, span_weaker}
 use Rattle.hound_medium.proofs.Torn.{number_at_small}
 use Rattle.hound_spec.specs.declared.error.Error.{Error}
 use Rattle.hound_spec.specs.declared.error.Error.TheVariants.{IoError}
-use Rattle.hound_writer.specs.Accepting.{faults_reported}
+use Rattle.hound_writer.specs.Accepting.{IsStored, faults_reported}
 use Rattle.hound_writer.specs.Parts.{GoesAtEach, GoesOut, StaysAround, after_out}
 use Rattle.hound_writer.specs.Writer.{Ghosts, Counts, ChangesSizesOnly, field, WriterState, IsBegun, IsPadded, IsSound, HasHeader, accepted_samples, data_end, data_length, padded_end}
 use Rattle.hound_durable.specs.{place_of}
@@ -104,6 +104,9 @@ module _ {W : Type 0} (kind : Ghosts W) (a : WriterState W) (m : W)
         padded =
             λ i k from to before later last. absurd (omega (arith, before, goes.beyond i from to));
         there =
+            λ whole i k from to before later last.
+            absurd (omega (arith, before, goes.beyond i from to));
+        all_stored =
             λ whole i k from to before later last.
             absurd (omega (arith, before, goes.beyond i from to));
         stored = goes.adds.stored;
@@ -238,6 +241,9 @@ module _ {W : Type 0} (kind : Ghosts W) (a : WriterState W) (m : W)
             old_or_new = old_or_new_later;
             padded = once_later (IsPadded a) (rw same_length at g.padded);
             there = λ whole. once_later (λ c. data_end a ≤ length c) (rw same_length at (g.there (f.whole whole)));
+            all_stored = λ whole. once_later
+                (IsStored a.data_start (concat (accepted_samples kind.state a)) 0 (data_length a))
+                (rw (f.accepted whole, same_length) at (g.all_stored (f.whole whole)));
             stored =
                 λ whole. stored_join a.data_start (concat (accepted_samples kind.state a))
                 (kind.state a.medium) (kind.state m) (kind.state end) goes.front.added g.half.added goes.front.past

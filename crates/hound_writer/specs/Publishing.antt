@@ -10,7 +10,7 @@ use Rattle.hound_sample.specs.{containers}
 use Rattle.hound_medium.specs.{moment, MediumState, WhereTells, WhereKeeps, Span}
 use Rattle.hound_durable.specs.{place_of}
 use Rattle.hound_walk.specs.{Readable}
-use Rattle.hound_writer.specs.Accepting.{IsPublishing, OnPublished, faults_reported, StaysStored}
+use Rattle.hound_writer.specs.Accepting.{IsPublishing, IsStored, OnPublished, faults_reported, StaysStored}
 use Rattle.hound_writer.specs.Writer.{Ghosts, Counts, ChangesSizesOnly, field, WriterState, HasSameSamples, IsWhole, IsBegun, IsPadded, HasHeader, accepted_samples, data_end, data_length, padded_end}
 
 -- The contents are read as exactly these samples, with this spec, from this place on.
@@ -99,6 +99,8 @@ pub record PublishesAtEach {W : Type 0} (state : W → MediumState) (w : WriterS
       (state end)
   pub padded : OncePutBefore w.data_start (IsPadded w) (state w.medium) (state end)
   pub there : IsWhole state w → OncePutBefore w.data_start (λ c. data_end w ≤ length c) (state w.medium) (state end)
+  pub all_stored : IsWhole state w → OncePutBefore w.data_start
+      (IsStored w.data_start (concat (accepted_samples state w)) 0 (data_length w)) (state w.medium) (state end)
   pub stored : IsWhole state w →
       StaysStored w.data_start (concat (accepted_samples state w)) (state w.medium) (state end)
 
