@@ -205,7 +205,7 @@ def constants_js():
         ["INT", "FLOAT", "EFFECT_BYTES", "DONE", "FAILED"],
         EFFECTS,
         [*MODES, *ALLOWED],
-        ["KIND_UNKNOWN", "KIND_RIFX", "KIND_FLOAT64"],
+        ["NOTHING_NEW", "KIND_UNKNOWN", "KIND_RIFX", "KIND_FLOAT64"],
     ):
         lines.append(f"const [{', '.join(names)}] = [{', '.join(str(NUMBERS[name]) for name in names)}];")
     lines.append(f"const STATES = [{', '.join(states_js())}];")

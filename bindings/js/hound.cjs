@@ -19,6 +19,11 @@ for (const name of FUNCTIONS) {
   exports[name] = async (...given) => loaded ? loaded[name](...given) : after(name, given.map(copied));
 }
 
+exports.follow = async function* follow(...given) {
+  await loading;
+  yield* loaded.follow(...given);
+};
+
 /** The errors of the module, which isn't there yet, are of this class, too. */
 exports.HoundError = class HoundError extends Error {
   static [Symbol.hasInstance](error) {

@@ -273,6 +273,44 @@ export function continueFile(
  * A block of up to 64 KiB is written before `write` returns, unless an earlier call is under way. Larger blocks and
  * syncs go to other threads, and so do all blocks of a file after one that took 20 milliseconds.
  */
+export interface Follow {
+  /** How many frames a block has at most; 4096 without it. */
+  frames?: number;
+  /** How many milliseconds are between two looks at the file; 50 without it. */
+  poll?: number;
+  /**
+   * After how many milliseconds without a new frame it ends, once no other program has the file locked: 2000 without
+   * it. Recorders of this package lock nothing, and only Linux says who does, so it has to be longer than the time
+   * between two checkpoints.
+   */
+  idle?: number;
+  /** Whether it continues in the next file of a recording in parts, as take-002.wav after take.wav. */
+  parts?: boolean;
+}
+
+/**
+ * Reads a recording while another program makes it, in Node: the frames that its header counts so far, as `read`
+ * returns them, and further ones as soon as they are counted. Each is one that the recorder accepted. It ends where the
+ * recording has ended, also where its recorder was killed: `findDamageInFile` says whether a repair finds more. A file
+ * that was emptied or replaced meanwhile is the error TRUNCATED.
+ */
+export function follow<T extends keyof Arrays>(
+  path: string | URL,
+  options: Follow & { type: T; planar?: false },
+): AsyncGenerator<Arrays[T], void, void>;
+export function follow<T extends keyof Arrays>(
+  path: string | URL,
+  options: Follow & { type: T; planar: true },
+): AsyncGenerator<Arrays[T][], void, void>;
+export function follow(
+  path: string | URL,
+  options?: Follow & { planar?: false },
+): AsyncGenerator<Int16Array | Int32Array | Float32Array, void, void>;
+export function follow(
+  path: string | URL,
+  options: Follow & { planar: true },
+): AsyncGenerator<Int16Array[] | Int32Array[] | Float32Array[], void, void>;
+
 export interface Recorder {
   readonly spec: Readonly<Spec>;
   /** How many frames have room after those that are written, for a program that continues in another file; with

@@ -122,7 +122,7 @@ const VERSION = 512;
 const [INT, FLOAT, EFFECT_BYTES, DONE, FAILED] = [0, 1, 40, 1, 2];
 const [READ, WRITE, WRITE_BLOCK, SYNC, SHORTEN, SYNC_FOLDER] = [1, 2, 3, 4, 5, 6];
 const [FIND_DAMAGE, REPAIR, REPAIR_TO_END, MAKE_CANONICAL, MEND, OVERWRITE] = [0, 1, 2, 3, 1, 2];
-const [KIND_UNKNOWN, KIND_RIFX, KIND_FLOAT64] = [65536, 65537, 65545];
+const [NOTHING_NEW, KIND_UNKNOWN, KIND_RIFX, KIND_FLOAT64] = [2, 65536, 65537, 65545];
 const STATES = ["whole", "cutOff", "hasChunksAfterData", "allCounted"];
 const LAYOUT = {
   spec: { sampleRate: 0, channels: 4, bitsPerSample: 6, bytesPerSample: 8, sampleFormat: 10, size: 12 },
@@ -1315,6 +1315,140 @@ export async function continueFile(path, format, options = {}) {
       return resume();
     });
   });
+}
+
+// How many of the last bytes that were given are read again, to see that the file still is that recording.
+const TAIL = 256;
+
+/** Reads at a place by this thread, and not ahead: a follower requests few bytes at once. */
+function readNow(handle, { place, length }) {
+  const bytes = new Uint8Array(length);
+  let count = 0;
+  for (let some = 1; some > 0 && count < length; count += some) {
+    some = node.readSync(handle.fd, bytes, count, length - count, place + count);
+  }
+  return bytes.subarray(0, count);
+}
+
+/** A file that another program records. */
+class Followed {
+  #handle;
+  #machine = new Machine("follower");
+  #given = 0; // How many bytes of samples were given.
+  #tail = new Uint8Array(0); // The last of them.
+
+  constructor(handle) {
+    this.#handle = handle;
+  }
+
+  get #dataStart() {
+    return Number(this.#machine.view.getBigUint64(LAYOUT.follower.dataStart, true));
+  }
+
+  /** How many bytes of whole frames are counted that weren't given. */
+  get #left() {
+    return this.#machine.view.getUint32(LAYOUT.follower.counted, true) - this.#given;
+  }
+
+  /** The spec of the samples, once all of the header was there. */
+  get spec() {
+    if (this.#dataStart === 0) return undefined;
+    const { spec } = LAYOUT.follower;
+    shared.bytes.set(this.#machine.bytes.subarray(spec, spec + LAYOUT.spec.size), FOUND);
+    return shared.specAt(FOUND);
+  }
+
+  /** Looks at the header, unless more is counted already than was given, and returns whether more is. */
+  look() {
+    for (let code = 1; this.#left === 0 && code === 1;) {
+      code = this.#machine.call("follower_next", shared.at(MACHINE));
+      if (code < 0) throw errorOf(code, callOver(readNow(this.#handle, { place: 0, length: FRONT }), "kind"));
+      const { effect } = this.#machine;
+      if (code === 1 && effect.kind !== READ) throw unknownEffect();
+      if (code === 1) this.#machine.report(effect, readNow(this.#handle, effect));
+      if (code === NOTHING_NEW) this.#check();
+    }
+    return this.#left > 0;
+  }
+
+  /** An error where the file no longer is that recording: it is shorter, or was emptied and recorded anew. */
+  #check() {
+    const { length } = this.#tail, now = readNow(this.#handle, { place: this.#dataStart + this.#given - length, length });
+    if (now.length < length || this.#tail.some((byte, i) => byte !== now[i])) throw new HoundError("TRUNCATED");
+  }
+
+  /** The containers of the next frames that are counted, at most so many. */
+  async take(frames) {
+    const { channels, bytesPerSample } = this.spec, length = Math.min(frames * channels * bytesPerSample, this.#left);
+    const bytes = await readAt(this.#handle, { place: this.#dataStart + this.#given, length });
+    if (bytes.length < length) throw new HoundError("TRUNCATED");
+    this.#check();
+    this.#given += length;
+    this.#tail = bytes.slice(-TAIL);
+    return bytes;
+  }
+}
+
+/** Whether a program has a file locked, as one does that records it by another package than this one. Only Linux says
+    that without locking it, too. */
+async function isLocked({ readFile }, handle) {
+  const locks = await readFile("/proc/locks", "latin1").catch(() => ""), { ino } = await handle.stat();
+  return locks.split("\n").some((line) => line.split(/\s+/)[5]?.endsWith(`:${ino}`));
+}
+
+const pause = (milliseconds) => new Promise((resolve) => setTimeout(resolve, milliseconds));
+
+/**
+ * Reads a recording at a path while another program makes it, in Node: a block of at most `frames` frames, as `read`
+ * returns them, as soon as its header counts them. It looks every `poll` milliseconds, and ends once nothing new is
+ * counted for `idle` milliseconds and no other program has the file locked. With `parts` it continues in the next file,
+ * as of a recorder with `split`. A file that becomes another one is an error.
+ */
+export async function* follow(path, options = {}) {
+  const { frames = 4096, poll = 50, idle = 2000, parts = false, ...how } =
+    checkedOptions(options, ["frames", "type", "planar", "poll", "idle", "parts"]);
+  integer("frames", frames, 1, Number.MAX_SAFE_INTEGER);
+  integer("poll", poll, 1, 0x7fffffff);
+  integer("idle", idle, 0, 0x7fffffff);
+  if (how.type !== undefined) typeNamed(how.type);
+  const fs = await files(), first = path instanceof URL ? path : (await nodePaths()).resolve(String(path));
+  for (let number = 1, name = first; name; number += 1) {
+    const handle = await openAt(fs, name, "O_RDONLY"), next = pathOfPart(first, number + 1);
+    try {
+      await sizeOn(handle, name);
+      yield* framesOf(new Followed(handle), frames, how, async (since) => {
+        await pause(poll);
+        return performance.now() - since < idle || await isLocked(fs, handle);
+      });
+    } finally {
+      await handle.close();
+    }
+    name = parts && await fs.access(next).then(() => next, () => undefined);
+  }
+}
+
+/** The blocks of a file that is followed, until `goesOn` says that nothing new comes. */
+async function* framesOf(followed, frames, { type, planar = false }, goesOn) {
+  for (let since = performance.now(), isLast = false; ;) {
+    if (followed.look()) {
+      const { spec } = followed;
+      const form = typeNamed(type ?? (spec.isFloat ? "float32" : spec.bitsPerSample <= 16 ? "int16" : "int32"));
+      yield blockOf(await followed.take(Math.min(frames, Math.floor(BLOCK / spec.channels))), spec, form, planar);
+      [since, isLast] = [performance.now(), false];
+    } else if (isLast) {
+      return; // After the recorder has ended its last checkpoint was looked at, too.
+    } else {
+      isLast = !await goesOn(since);
+    }
+  }
+}
+
+/** The samples of these containers, as `read` returns them. */
+function blockOf(bytes, spec, form, planar) {
+  const each = planar ? 1 : spec.channels, count = bytes.length / spec.bytesPerSample;
+  const parts = Array.from({ length: spec.channels / each }, () => new form.array(count * each / spec.channels));
+  decode(bytes, spec, form, parts, 0);
+  return planar ? parts : parts[0];
 }
 
 // The Blobs that `append` has made: their recorders, specs and parts, which an append to one of them takes over.
