@@ -27,7 +27,7 @@ class Allowed(NamedTuple):
 
 REPLACEMENTS = [
     # What contracts need and Rust has no word for.
-    Allowed("*", 10, "#![tactic(…)]", "", "The prover's tactics."),
+    Allowed("*", 11, "#![tactic(…)]", "", "The prover's tactics."),
     Allowed("*", 18, "#[tactic(…)]", "", "The prover's tactics."),
     Allowed("*", 5, "impl … Model for … {…}", "", "What a value is in contracts."),
     Allowed("*", 4, "use std::marker::Model;", "", "The trait of that."),

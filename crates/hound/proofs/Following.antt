@@ -5,14 +5,17 @@ use Rattle.std.proofs.lemmas.Bool.{cases_lt}
 use Rattle.std.proofs.lemmas.List.{append-nil, length-take-le, take-take, take-append-le}
 use Rattle.std.specs.List.{concat}
 use Rattle.hound_spec.specs.declared.spec.WavSpecEx.{WavSpecEx}
-use Rattle.hound_number.specs.{mix, number}
+use Rattle.hound_number.specs.{AreBytes, bytes_of, mix, number}
 use Rattle.hound_medium.specs.{moment, MediumState}
 use Rattle.hound_medium.proofs.Overlays.{front_part}
+use Rattle.hound_medium.proofs.Torn.{bytes_at, number_at_small}
+use Rattle.hound_walk.proofs.TakenLemmas.{head_is_there}
 use Rattle.hound_sample.proofs.Joined.{length-concat}
 use Rattle.hound_writer.specs.{Asked, Begun, Call, Counts, IsStored, field, found_in, publish, start_of}
 use Rattle.hound_repair.proofs.Joining.{AreWide, concat-append, concat_front, wide_front, wide_take}
 use Rattle.hound_writer.proofs.Heads.{head_beyond}
-use Rattle.hound.specs.Headline.{Keeps, accepted_by_all, begins_at, one_by_one}
+use Rattle.hound.specs.Following.{number_from}
+use Rattle.hound.specs.Headline.{Keeps, accepted_by_all, begins_at}
 use Rattle.hound.proofs.Calling.{last_of, length-concat-append}
 use Rattle.hound.proofs.Checkpoints.{accepted_after}
 use Rattle.hound.proofs.PowerLoss.{during}
@@ -344,6 +347,36 @@ module _ (x y j old new : ℕ) (there : x ≡ mix j old new) (u : Sources x) (fe
   )
   next_sources (suc (suc (suc (suc (suc k))))) some four here le = absurd (omega (arith, four))
 
+-- the number whose bytes, the low one first, are that of the first number, the second one of the next, and so on
+abbrev one_by_one : ℕ → ℕ → ℕ → ℕ → ℕ
+one_by_one a b c d =
+    a % 256 + 256 * (b / 256 % 256 + 256 * (c / 256 / 256 % 256 + 256 * (d / 256 / 256 / 256 % 256)))
+
+-- the byte with this number of four ones is that of their number
+module _ (p : ℕ) (c : List ℕ) (inside : p + 4 ≤ length c) (small : AreBytes c) where
+  byte_at : (j : ℕ) → j + 1 ≤ 4 → take 1 (drop (p + j) c) ≡ take 1 (drop j (bytes_of 4 (field p c)))
+  byte_at j few =
+      ap (take 1) (sym (drop-drop j p c))
+      ∙ front_part 4 j 1 (drop p c) (bytes_of 4 (field p c)) few (sym (bytes_at p c inside small))
+
+-- so four bytes from contents of their own are those of four numbers
+by_numbers : (p : ℕ) (a b c d : List ℕ) → p + 4 ≤ length a → p + 4 ≤ length b → p + 4 ≤ length c → p + 4 ≤ length d
+    → AreBytes a → AreBytes b → AreBytes c → AreBytes d
+    → number_from p a b c d ≡ one_by_one (field p a) (field p b) (field p c) (field p d)
+by_numbers p a b c d in_a in_b in_c in_d small_a small_b small_c small_d =
+    let zero_more : p + 0 ≡ p = omega arith in
+    let first : take 1 (drop p a) ≡ take 1 (bytes_of 4 (field p a)) =
+    ap (λ q. take 1 (drop q a)) (sym zero_more) ∙ byte_at p a in_a small_a 0 (omega arith) in
+    let w = field p a in
+    let x = field p b in
+    let y = field p c in
+    let z = field p d in
+    let listed : number_from p a b c d ≡ w % 256 + 256 * (x / 256 % 256 + 256 * (y / 256 / 256 % 256
+    + 256 * (z / 256 / 256 / 256 % 256 + 256 * 0))) =
+    λ i. number (first i ++ (byte_at p b in_b small_b 1 (omega arith) i
+    ++ (byte_at p c in_c small_c 2 (omega arith) i ++ byte_at p d in_d small_d 3 (omega arith) i))) in
+    listed ∙ omega arith
+
 -- four bytes of which each is from a length that is no older than those of the bytes above it are no more than the
 -- newest of these
 four_bytes : (a b c d x0 x1 x2 x3 : ℕ) → x0 % 256 ≡ a % 256 → x1 / 256 % 256 ≡ b / 256 % 256
@@ -613,12 +646,43 @@ module _ (s : WavSpecEx) (file : Begun) (calls : List Call) (m : MediumState) (k
       ) in
       covered_from d.first d.rest d.call parts begun k3 k2 k1 k0 d.from d.to le2 le1 le0 to few stored
 
+  length_inside : (k : ℕ) → begins_at calls m.past ≤ k → k ≤ length m.past → start - 4 + 4 ≤ length (now k)
+  length_inside k from to =
+      let head = keeps.promises.head k from to in
+      omega (
+        arith,
+        head_is_there (now k) s (length_at k) start head,
+        head_beyond (now k) s (length_at k) start head,
+      )
+
   pub reads_one_by_one : (k3 k2 k1 k0 later a len : ℕ) → begins_at calls m.past ≤ k3 → k3 ≤ k2 → k2 ≤ k1 → k1 ≤ k0
       → k0 ≤ later → later ≤ length m.past
-      → a + len ≤ one_by_one (length_at k0) (length_at k1) (length_at k2) (length_at k3)
+      → AreBytes (now k0) → AreBytes (now k1) → AreBytes (now k2) → AreBytes (now k3)
+      → a + len ≤ number_from (start - 4) (now k0) (now k1) (now k2) (now k3)
       → IsStored start (concat (samples calls)) a len (now later)
-  reads_one_by_one k3 k2 k1 k0 later a len from le2 le1 le0 le to inside =
+  reads_one_by_one k3 k2 k1 k0 later a len from le2 le1 le0 le to small0 small1 small2 small3 within =
+      let is = by_numbers (start - 4) (now k0) (now k1) (now k2) (now k3)
+      (length_inside k0 (omega (arith, from, le2, le1, le0)) (omega (arith, le, to)))
+      (length_inside k1 (omega (arith, from, le2, le1)) (omega (arith, le0, le, to)))
+      (length_inside k2 (omega (arith, from, le2)) (omega (arith, le1, le0, le, to)))
+      (length_inside k3 from (omega (arith, le2, le1, le0, le, to))) small0 small1 small2 small3 in
+      let inside : a + len ≤ one_by_one (length_at k0) (length_at k1) (length_at k2) (length_at k3) =
+      omega (arith, within, is) in
       let c = covered k3 k2 k1 k0 from le2 le1 le0 (omega (arith, le, to)) calls refl in
       part s file calls m keeps c.n (now later)
       (stays s file calls m keeps c.first c.rest c.parts c.n k0 later c.began le to c.few c.stored) a len
       (omega (arith, inside, c.most))
+
+  pub same_length : (k3 k2 k1 k0 n : ℕ) → begins_at calls m.past ≤ k3 → k3 ≤ k2 → k2 ≤ k1 → k1 ≤ k0
+      → k0 ≤ length m.past → AreBytes (now k0) → AreBytes (now k1) → AreBytes (now k2) → AreBytes (now k3)
+      → length_at k0 ≡ n → length_at k1 ≡ n → length_at k2 ≡ n → length_at k3 ≡ n
+      → number_from (start - 4) (now k0) (now k1) (now k2) (now k3) ≡ n
+  same_length k3 k2 k1 k0 n from le2 le1 le0 to small0 small1 small2 small3 is0 is1 is2 is3 =
+      let inside = length_inside k0 (omega (arith, from, le2, le1, le0)) to in
+      let few = number_at_small (start - 4) (now k0) inside small0 in
+      let whole : one_by_one n n n n ≡ n = omega (arith, few, is0) in
+      by_numbers (start - 4) (now k0) (now k1) (now k2) (now k3) inside
+      (length_inside k1 (omega (arith, from, le2, le1)) (omega (arith, le0, to)))
+      (length_inside k2 (omega (arith, from, le2)) (omega (arith, le1, le0, to)))
+      (length_inside k3 from (omega (arith, le2, le1, le0, to))) small0 small1 small2 small3
+      ∙ (λ i. one_by_one (is0 i) (is1 i) (is2 i) (is3 i)) ∙ whole

@@ -1,6 +1,6 @@
 -- What a list of calls of a writer promises, whatever failed: counted in each state, published at a flush, canonical at
 -- the end.
-use Rattle.std.specs.Prelude.{◌≡◌, ℕ, ◌+◌, ◌-◌, ◌*◌, ◌/◌, ◌%◌, ◌<◌, ◌≤◌, ◌⊎◌, ⊤, max, Bool, true, Result, Ok, Err, List, [], ◌∷◌, ◌++◌, length, map, take}
+use Rattle.std.specs.Prelude.{◌≡◌, ℕ, ◌+◌, ◌-◌, ◌/◌, ◌%◌, ◌<◌, ◌≤◌, ◌⊎◌, ⊤, max, Bool, true, Result, Ok, Err, List, [], ◌∷◌, ◌++◌, length, map, take}
 use Rattle.std.specs.List.{concat, flat_map, AllByRecursion}
 use Rattle.std.specs.Io.{StartsWith}
 use Rattle.hound_spec.specs.declared.error.Error.{Error}
@@ -209,11 +209,6 @@ KeptAfterLoss s start found calls medium =
     (start - 4) / sector ≡ (start - 1) / sector →
     SurvivesLoss sector medium.start medium.past f (length medium.past) contents →
     LosesNothing s start found calls (record medium { flushed = f }) contents
-
--- the number whose bytes, the low one first, are that of the first number, the second one of the next, and so on
-abbrev pub one_by_one : ℕ → ℕ → ℕ → ℕ → ℕ
-one_by_one a b c d =
-    a % 256 + 256 * (b / 256 % 256 + 256 * (c / 256 / 256 % 256 + 256 * (d / 256 / 256 / 256 % 256)))
 
 -- What calls promise of a medium that records every byte written, in each of its states since the first of them; the
 -- last state is the medium as it is now.

@@ -5,7 +5,7 @@ ghost use Rattle.std.specs.declared.io.Error.{Error as IoFault};
 ghost use Rattle.hound_spec.specs.declared.error.Error.{Error};
 ghost use Rattle.hound_spec.specs.declared.spec.WavSpecEx.{WavSpecEx};
 ghost use Rattle.hound_spec.specs.{canonical, data_start, riff_size};
-ghost use Rattle.hound_number.specs.{mix};
+ghost use Rattle.hound_number.specs.{AreBytes, mix};
 ghost use Rattle.hound_medium.specs.{MediumState, WhereKeeps, WhereTells, moment, overlay};
 ghost use Rattle.hound_durable.specs.{Ascends, SurvivesLoss, place_of};
 ghost use Rattle.hound_sample.specs.{Rejection, int_container};
@@ -23,7 +23,8 @@ ghost use Rattle.hound.specs.declared.session.Begin.TheVariants.{New};
 ghost use Rattle.hound.specs.declared.session.Begin.{Begin};
 ghost use Rattle.hound.specs.declared.session.End.{End};
 ghost use Rattle.hound.specs.Ending.{actions_left};
-ghost use Rattle.hound.specs.Headline.{HasPublished, Holds, HoldsAtEnd, IsLeftAfter, Keeps, Kept, KeptWithin, LeftWithin, accepted_as_seen, accepted_by_all, begins_at, one_by_one, seen};
+ghost use Rattle.hound.specs.Headline.{HasPublished, Holds, HoldsAtEnd, IsLeftAfter, Keeps, Kept, KeptWithin, LeftWithin, accepted_as_seen, accepted_by_all, begins_at, seen};
+ghost use Rattle.hound.specs.Following.{number_from};
 ghost use Rattle.hound.specs.Run.{BeginsAs, EndsAs, Ran, asked_by, containers_of, RunsOn, all_steps};
 
 use crate::session::Step;
@@ -266,7 +267,8 @@ pub fn a_request_ends()
 /// faults come between, and what a greater length counts begins with it.
 ///
 /// So it is also where the length's four bytes are taken in four states, the last byte first (`torn`): a system that
-/// reads four bytes at once may mix those of two lengths, in any order, and count more than was accepted.
+/// reads four bytes at once may mix those of two lengths, in any order, and count more than was accepted. A length that
+/// stays the same in these states is the one that is taken (`same`).
 pub fn a_follower_reads_accepted_samples()
     ensures counted { (s : WavSpecEx) (file : Begun) (calls : List Call) (m : MediumState) → Keeps s file calls m
         → (k : ℕ) → begins_at calls m.past ≤ k → k ≤ length m.past →
@@ -279,8 +281,15 @@ pub fn a_follower_reads_accepted_samples()
         (moment m.start m.past later) }
     ensures torn { (s : WavSpecEx) (file : Begun) (calls : List Call) (m : MediumState) → Keeps s file calls m
         → (k3 k2 k1 k0 later a len : ℕ) → begins_at calls m.past ≤ k3 → k3 ≤ k2 → k2 ≤ k1 → k1 ≤ k0 → k0 ≤ later
-        → later ≤ length m.past → let says = λ (k : ℕ). field (start_of s file - 4) (moment m.start m.past k) in
-        a + len ≤ one_by_one (says k0) (says k1) (says k2) (says k3) →
+        → later ≤ length m.past → let at = moment m.start m.past in
+        AreBytes (at k0) → AreBytes (at k1) → AreBytes (at k2) → AreBytes (at k3)
+        → a + len ≤ number_from (start_of s file - 4) (at k0) (at k1) (at k2) (at k3) →
         IsStored (start_of s file) (concat (found_in file ++ accepted_by_all calls)) a len
         (moment m.start m.past later) }
+    ensures same { (s : WavSpecEx) (file : Begun) (calls : List Call) (m : MediumState) → Keeps s file calls m
+        → (k3 k2 k1 k0 n : ℕ) → begins_at calls m.past ≤ k3 → k3 ≤ k2 → k2 ≤ k1 → k1 ≤ k0 → k0 ≤ length m.past
+        → let at = moment m.start m.past in let place = start_of s file - 4 in
+        AreBytes (at k0) → AreBytes (at k1) → AreBytes (at k2) → AreBytes (at k3)
+        → field place (at k0) ≡ n → field place (at k1) ≡ n → field place (at k2) ≡ n → field place (at k3) ≡ n →
+        number_from place (at k0) (at k1) (at k2) (at k3) ≡ n }
 {}

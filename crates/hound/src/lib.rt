@@ -71,6 +71,10 @@ mod runs;
 mod session;
 
 pub use hound_durable::{Durable, SyncedFile, a_durable_medium_ascends};
+pub use hound_follow::{
+    FollowError, FollowStep, Follower, Look, Recording, a_look_ends,
+    a_look_takes_the_last_byte_first,
+};
 pub use hound_medium::{Journal, Medium, Placed, Source, Tape, put_all};
 pub use hound_reader::{
     WavIntoSamples, WavReader, WavSamples, a_block_is_its_items, a_reader_is_where_it_counts,

@@ -4,6 +4,7 @@
 
 mod callers;
 mod example;
+mod following;
 mod reading;
 mod recorder;
 mod recording;
@@ -15,6 +16,7 @@ pub use callers::{
     repair_recording, sample_at, samples_of,
 };
 pub use example::record_and_read;
+pub use following::follow_meanwhile;
 pub use reading::{opened_meanwhile, read_block, read_from, read_memory, reopen, written_and_read};
 pub use recorder::{
     a_cut_recording_counts, append_by_effects, begin_by_effects, continue_by_effects,

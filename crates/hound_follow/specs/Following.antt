@@ -1,5 +1,5 @@
 -- A program that follows a recording while another one makes it.
-use Rattle.std.specs.Prelude.{◌≡◌, ℕ, zero, suc, ◌+◌, ◌-◌, ◌*◌, ◌%◌, ◌^◌, ◌≤◌, ◌<◌, ⊤, ⊥, nat_lt, ◌==◌, if◌then◌else◌, List, [], ◌∷◌, length, take, Option, None, Some, Result, Ok, Err}
+use Rattle.std.specs.Prelude.{◌≡◌, ℕ, zero, suc, ◌+◌, ◌-◌, ◌*◌, ◌%◌, ◌^◌, ◌≤◌, ◌<◌, ⊤, max, nat_lt, ◌==◌, if◌then◌else◌, List, [], ◌∷◌, length, take, Option, None, Some, Result, Ok, Err}
 use Rattle.hound_number.specs.{number}
 use Rattle.hound_spec.specs.{greatest_u32, riff_size}
 use Rattle.hound_spec.specs.declared.spec.WavSpecEx.{WavSpecEx}
@@ -10,14 +10,12 @@ use Rattle.hound_walk.specs.declared.parts.HeadWalk.{HeadWalk}
 use Rattle.hound_walk.specs.declared.parts.Part.TheVariants.{Front}
 use Rattle.hound_walk.specs.declared.parts.Step.{Step}
 use Rattle.hound_walk.specs.declared.parts.Step.TheVariants.{Next, Data}
-use Rattle.hound_writer.specs.declared.effects.Action.{Action}
-use Rattle.hound_writer.specs.declared.effects.Action.TheVariants.{Read}
 use Rattle.hound_writer.specs.declared.effects.Report.{Report}
 use Rattle.hound_writer.specs.declared.effects.Report.TheVariants.{Pending, Done, Failed}
 use Rattle.hound_follow.specs.declared.follower.FollowError.{FollowError}
 use Rattle.hound_follow.specs.declared.follower.FollowError.TheVariants.{Rejected, Truncated, TooLong, NotPerformed}
 use Rattle.hound_follow.specs.declared.follower.FollowStep.{FollowStep}
-use Rattle.hound_follow.specs.declared.follower.FollowStep.TheVariants.{Asks, Grew, NothingNew}
+use Rattle.hound_follow.specs.declared.follower.FollowStep.TheVariants.{Reads, Grew, NothingNew}
 use Rattle.hound_follow.specs.declared.follower.Follower.{Follower}
 use Rattle.hound_follow.specs.declared.follower.Follower.TheVariants.{Walks, Looks}
 use Rattle.hound_follow.specs.declared.follower.Look.{Look}
@@ -38,10 +36,10 @@ recording_of (Looks recording look) = Some recording
 -- | Walks | as many as the next part of the header has | after the parts before |
 -- | Looks, at the Length | 4 | those of the data length |
 -- | Looks, at a Byte | 1 | that of the data length with its number |
-abbrev pub requested_by : Follower → Action
-requested_by (Walks walk) = Read (part_start walk.part walk.taken) (part_length walk.part)
-requested_by (Looks recording Length) = Read (recording.data_start - 4) 4
-requested_by (Looks recording (Byte n above)) = Read (recording.data_start - 4 + n) 1
+abbrev pub requested_by : Follower → ℕ × ℕ
+requested_by (Walks walk) = (part_start walk.part walk.taken, part_length walk.part)
+requested_by (Looks recording Length) = (recording.data_start - 4, 4)
+requested_by (Looks recording (Byte n above)) = (recording.data_start - 4 + n, 1)
 
 -- a walk at the first part of a header
 abbrev pub first_walk : HeadWalk
@@ -60,15 +58,18 @@ look_ended follower returned = record { follower = begun_again follower; returne
 -- | any | none | it requests the same again | as it was |
 -- a look that continues with a request
 abbrev pub look_requests : Follower → Outcome
-look_requests follower = record { follower = follower; returned = Ok (Asks (requested_by follower)) }
+look_requests follower =
+    let (place, n) = requested_by follower in record { follower = follower; returned = Ok (Reads place n) }
+
+-- a recording whose header was read
+abbrev pub begun : WavSpecEx → ℕ → Recording
+begun s start = record { spec_ex = s; data_start = start; counted = 0; last = 0 }
 
 -- | Walks | done, and another part decides | it requests that part | at that part |
 -- | Walks | done, and the data begin after it | Grew | at the Length of this recording, of which nothing is counted yet |
 abbrev pub after_step : Step → Outcome
 after_step (Next walk) = look_requests (Walks walk)
-after_step (Data head) =
-    let recording = record { spec_ex = head.spec_ex; data_start = head.data_start; counted = 0; last = 0 } in
-    look_ended (Looks recording Length) (Ok Grew)
+after_step (Data head) = look_ended (Looks (begun head.spec_ex head.data_start) Length) (Ok Grew)
 
 -- | Walks | done, and the file ends before the data begin | NothingNew | at the first part |
 -- | Walks | done, and the file isn't read | Rejected, with the cause | at the first part |
@@ -98,16 +99,20 @@ after_length recording bytes =
     else if number (take 4 bytes) == recording.last then look_ended (Looks recording Length) (Ok NothingNew)
     else look_requests (Looks recording (Byte 3 0))
 
+-- a recording after its data length was found to be n bytes: no fewer are counted than before
+abbrev pub counted_to : Recording → ℕ → Recording
+counted_to recording n =
+    record recording { counted = max recording.counted (whole_bytes recording.spec_ex n); last = n }
+
 -- | Looks, at Byte 0 | done, and the length is that of no file | TooLong | at the Length |
 -- | Looks, at Byte 0 | done, and the length counts more whole frames | Grew | at the Length, with these counted |
 -- | Looks, at Byte 0 | done, and it counts no more | NothingNew | at the Length |
 abbrev pub after_count : Recording → ℕ → Outcome
 after_count recording n =
-    let whole = whole_bytes recording.spec_ex n in
     if nat_lt greatest_u32 (riff_size recording.data_start n) then look_ended (Looks recording Length) (Err TooLong)
-    else if nat_lt recording.counted whole
-    then look_ended (Looks (record recording { counted = whole; last = n }) Length) (Ok Grew)
-    else look_ended (Looks (record recording { last = n }) Length) (Ok NothingNew)
+    else if nat_lt recording.counted (whole_bytes recording.spec_ex n)
+    then look_ended (Looks (counted_to recording n) Length) (Ok Grew)
+    else look_ended (Looks (counted_to recording n) Length) (Ok NothingNew)
 
 -- | Looks, at another Byte | done | it requests the byte before that one | at that Byte |
 -- | Looks | done, with fewer bytes than were requested | Truncated | at the Length |
@@ -131,6 +136,10 @@ TakesReport Done bytes follower outcome = TakesRead bytes follower outcome
 -- what a call does, by how what was requested has ended
 abbrev pub FollowsNext : Report → List ℕ → Follower → Follower → Result FollowStep FollowError → Type 0
 FollowsNext report bytes old new result = TakesReport report bytes old (record { follower = new; returned = result })
+
+-- a call leaves this follower, and returns this
+abbrev pub LeavesLook : Outcome → Follower → Result FollowStep FollowError → Type 0
+LeavesLook outcome new result = (new ≡ outcome.follower) × (result ≡ outcome.returned)
 
 -- over every file: a spec that can be divided by, and a place after a header
 abbrev pub IsSoundRecording : Recording → Type 0

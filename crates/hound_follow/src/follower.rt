@@ -1,14 +1,14 @@
 // The reads by which a program follows a recording.
 ghost use Rattle.std.specs.Prelude.{◌≡◌};
 ghost use Rattle.hound_walk.specs.{IsSoundOption, IsSoundSpec};
-ghost use Rattle.hound_follow.specs.Following.{FollowsNext, IsSoundFollower, IsSoundLength, IsSoundRecording, TakesHeaderPart, after_byte, after_count, after_length, look_ended, first_walk, recording_of, requested_by, look_requests, whole_bytes};
-ghost use Rattle.hound_follow.specs.declared.follower.Follower.TheVariants.{Walks};
+ghost use Rattle.hound_follow.specs.Following.{FollowsNext, IsSoundFollower, IsSoundLength, IsSoundRecording, TakesHeaderPart, TakesRead, after_byte, after_count, after_length, look_ended, first_walk, recording_of, requested_by, look_requests, whole_bytes};
+ghost use Rattle.hound_follow.specs.declared.follower.Follower.TheVariants.{Looks, Walks};
 ghost use Rattle.hound_follow.specs.declared.follower.Look.TheVariants.{Byte};
 
 use hound_number::u32_at;
 use hound_spec::{WavSpecEx, riff_size_fits};
 use hound_walk::{Cause, HeadWalk, Part, Step, take_part};
-use hound_writer::{Action, Report};
+use hound_writer::Report;
 
 /// A recording whose header was read.
 #[derive(Clone, Copy, Debug, PartialEq, Eq)]
@@ -44,8 +44,8 @@ pub enum Follower {
 /// What a follower's caller does next.
 #[derive(Clone, Copy)]
 pub enum FollowStep {
-    /// This.
-    Asks(Action),
+    /// A read of so many bytes at this place: the place, and how many.
+    Reads(u64, u32),
     /// Nothing: the look has ended, and found all of the header, or that more whole frames are counted.
     Grew,
     /// Nothing: the look has ended, and found neither.
@@ -86,11 +86,13 @@ fn ended(follower: Follower, returned: Result<FollowStep, FollowError>) -> Outco
 // A look that continues with a request.
 fn requests(follower: Follower) -> Outcome
     requires { IsSoundFollower follower }
-    ensures { result ≡ look_requests follower }
+    ensures is { result ≡ look_requests follower }
+    ensures sound { IsSoundFollower result.follower }
 {
+    let (place, length) = follower.request();
     Outcome {
         follower,
-        returned: Ok(FollowStep::Asks(follower.request())),
+        returned: Ok(FollowStep::Reads(place, length)),
     }
 }
 
@@ -109,7 +111,10 @@ fn after_part(walk: HeadWalk, bytes: &[u8]) -> Outcome
                 counted: 0,
                 last: 0,
             };
-            ended(Follower::Looks(recording, Look::Length), Ok(FollowStep::Grew))
+            ended(
+                Follower::Looks(recording, Look::Length),
+                Ok(FollowStep::Grew),
+            )
         }
         // The recorder may not have written all of it yet.
         Err(Cause::Ended) => ended(Follower::Walks(walk), Ok(FollowStep::NothingNew)),
@@ -137,13 +142,18 @@ impl Recording {
             let follower = Follower::Looks(self, Look::Length);
             return ended(follower, Err(FollowError::TooLong));
         }
-        let (counted, step) = match self.whole_frames(length) {
-            whole if whole > self.counted => (whole, FollowStep::Grew),
-            _ => (self.counted, FollowStep::NothingNew),
+        let whole = self.whole_frames(length);
+        let recording = Recording {
+            counted: whole.max(self.counted),
+            last: length,
+            ..self
         };
-        let last = length;
-        let follower = Follower::Looks(Recording { counted, last, ..self }, Look::Length);
-        ended(follower, Ok(step))
+        let step = if whole > self.counted {
+            FollowStep::Grew
+        } else {
+            FollowStep::NothingNew
+        };
+        ended(Follower::Looks(recording, Look::Length), Ok(step))
     }
 
     // What comes of all four bytes of the data length.
@@ -174,9 +184,22 @@ impl Recording {
             return ended(follower, Err(FollowError::Truncated));
         }
         let from_here = above * 256 + bytes[0] as u32;
-        match number {
-            0 => self.after_count(from_here),
-            _ => requests(Follower::Looks(self, Look::Byte(number - 1, from_here))),
+        if number == 0 {
+            return self.after_count(from_here);
+        }
+        requests(Follower::Looks(self, Look::Byte(number - 1, from_here)))
+    }
+
+    // What comes of what was requested of the data length.
+    fn after_look(self, look: Look, bytes: &[u8]) -> Outcome
+        requires sound { IsSoundRecording self }
+        requires look { IsSoundLength look }
+        ensures takes { TakesRead bytes.now (Looks self look) result }
+        ensures sound { IsSoundFollower result.follower }
+    {
+        match look {
+            Look::Length => self.after_length(bytes),
+            Look::Byte(number, above) => self.after_byte(number, above, bytes),
         }
     }
 }
@@ -204,17 +227,19 @@ impl Follower {
         }
     }
 
-    /// What it requests: one read.
-    pub fn request(self) -> Action
+    /// Where it reads next, and how many bytes.
+    pub fn request(self) -> (u64, u32)
         requires { IsSoundFollower self }
         ensures { result ≡ requested_by self }
     {
-        match self {
-            Follower::Walks(walk) => Action::Read(walk.start(), walk.length() as u32),
-            Follower::Looks(recording, Look::Length) => Action::Read(recording.data_start - 4, 4),
-            Follower::Looks(recording, Look::Byte(number, _)) => {
-                Action::Read(recording.data_start - 4 + number as u64, 1)
-            }
+        let (recording, look) = match self {
+            Follower::Walks(walk) => return (walk.start(), walk.length() as u32),
+            Follower::Looks(recording, look) => (recording, look),
+        };
+        let place = recording.data_start - 4;
+        match look {
+            Look::Length => (place, 4),
+            Look::Byte(number, _) => (place + number as u64, 1),
         }
     }
 
@@ -228,14 +253,13 @@ impl Follower {
         ensures steps { FollowsNext report bytes.now self.old self.new result }
         ensures sound { IsSoundFollower self.new }
     {
-        let outcome = match (report, *self) {
-            (Report::Pending, follower) => requests(follower),
-            (Report::Failed, follower) => ended(follower, Err(FollowError::NotPerformed)),
-            (Report::Done, Follower::Walks(walk)) => after_part(walk, bytes),
-            (Report::Done, Follower::Looks(recording, Look::Length)) => recording.after_length(bytes),
-            (Report::Done, Follower::Looks(recording, Look::Byte(number, above))) => {
-                recording.after_byte(number, above, bytes)
-            }
+        let outcome = match report {
+            Report::Pending => requests(*self),
+            Report::Failed => ended(*self, Err(FollowError::NotPerformed)),
+            Report::Done => match *self {
+                Follower::Walks(walk) => after_part(walk, bytes),
+                Follower::Looks(recording, look) => recording.after_look(look, bytes),
+            },
         };
         *self = outcome.follower;
         outcome.returned

@@ -14,4 +14,4 @@ mod follower;
 mod laws;
 
 pub use follower::{FollowError, FollowStep, Follower, Look, Recording};
-pub use laws::a_look_ends;
+pub use laws::{a_look_ends, a_look_takes_the_last_byte_first};

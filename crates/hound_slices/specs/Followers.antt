@@ -7,13 +7,14 @@ use Rattle.hound_follow.specs.{FollowsNext, first_walk}
 use Rattle.hound_follow.specs.declared.follower.FollowError.{FollowError}
 use Rattle.hound_follow.specs.declared.follower.FollowError.TheVariants as errors
 use Rattle.hound_follow.specs.declared.follower.FollowStep.{FollowStep}
-use Rattle.hound_follow.specs.declared.follower.FollowStep.TheVariants.{Asks, Grew, NothingNew}
+use Rattle.hound_follow.specs.declared.follower.FollowStep.TheVariants.{Reads, Grew, NothingNew}
 use Rattle.hound_follow.specs.declared.follower.Follower.{Follower}
 use Rattle.hound_follow.specs.declared.follower.Follower.TheVariants.{Walks, Looks}
 use Rattle.hound_follow.specs.declared.follower.Look.{Look}
 use Rattle.hound_follow.specs.declared.follower.Look.TheVariants.{Length, Byte}
 use Rattle.hound_follow.specs.declared.follower.Recording.{Recording}
 use Rattle.hound_writer.specs.declared.effects.Action.{Action}
+use Rattle.hound_writer.specs.declared.effects.Action.TheVariants.{Read}
 use Rattle.hound_slices.specs.Effects.{effect_of, report_of}
 use Rattle.hound_slices.specs.Walks.{found_of, walk_with}
 use Rattle.hound_slices.specs.Writing.{IsExplicit}
@@ -65,13 +66,13 @@ asked_bytes c = take (min (min c.effect.length 40) (count_asked (follower_of c))
 
 -- what is requested next, if something is
 abbrev pub action_of : Result FollowStep FollowError → Option Action
-action_of (Ok (Asks action)) = Some action
+action_of (Ok (Reads place n)) = Some (Read place n)
 action_of _ = None
 
 -- what a call returns for a step
 abbrev pub outcome_of : Result FollowStep FollowError → Result ℕ CallError
 outcome_of (Ok Grew) = Ok 0
-outcome_of (Ok (Asks action)) = Ok 1
+outcome_of (Ok (Reads place n)) = Ok 1
 outcome_of (Ok NothingNew) = Ok 2
 outcome_of (Err (errors.Rejected cause)) = Err (Head cause)
 outcome_of (Err errors.Truncated) = Err Truncated

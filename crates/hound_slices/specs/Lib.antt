@@ -10,6 +10,7 @@ pub use Rattle.hound_slices.specs.Recording.{BeginsForC, HasRecorderNumbers, blo
 pub use Rattle.hound_slices.specs.Repairers.{BeginsRepairer, GivesStep, HasRepairerNumbers, StepsRepairer, after_head, bytes_read, count_of, error_of, failure_of_code, head_of, head_with, if_head, repairing_of, task_of}
 pub use Rattle.hound_slices.specs.Searching.{CountsWhole, GuessesData, HasFrames, IsFirstTag, IsKind, IsKindOfSamples, IsTagAt, format_of_fmt, is_mpeg}
 unfoldable pub use Rattle.hound_slices.specs.Searching.{kind_of_fmt, kind_of_tag}
+pub use Rattle.hound_slices.specs.Followers.{HasFollowerNumbers, StepsFollower, action_of, asked_bytes, count_asked, follower_of, if_recording, look_of, outcome_of, recording_of, recording_with}
 pub mod Codes
 pub mod Reading
 pub mod Writing
@@ -20,3 +21,4 @@ pub mod Effects
 pub mod Recording
 pub mod Repairers
 pub mod Searching
+pub mod Followers

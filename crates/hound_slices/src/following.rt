@@ -134,7 +134,7 @@ fn action_of(step: Result<FollowStep, FollowError>) -> Option<Action>
     ensures { result ≡ action_of step }
 {
     match step {
-        Ok(FollowStep::Asks(action)) => Some(action),
+        Ok(FollowStep::Reads(place, length)) => Some(Action::Read(place, length)),
         _ => None,
     }
 }
@@ -146,7 +146,7 @@ fn outcome_of(step: Result<FollowStep, FollowError>) -> Result<usize, CallError>
 {
     match step {
         Ok(FollowStep::Grew) => Ok(0),
-        Ok(FollowStep::Asks(_)) => Ok(1),
+        Ok(FollowStep::Reads(..)) => Ok(1),
         Ok(FollowStep::NothingNew) => Ok(2),
         Err(FollowError::Rejected(cause)) => Err(CallError::Head(cause)),
         Err(FollowError::Truncated) => Err(CallError::Truncated),

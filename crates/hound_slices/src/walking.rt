@@ -1,8 +1,9 @@
 // The walk of a caller who reads the file.
-ghost use Rattle.std.specs.Prelude.{◌≡◌, ◌<◌, pos};
+ghost use Rattle.std.specs.Prelude.{◌≡◌, ◌<◌, pos, IfSome};
 ghost use Rattle.hound_walk.specs.{IsSoundOption};
 ghost use Rattle.hound_writer.specs.declared.effects.Report.TheVariants.{Done};
 ghost use Rattle.hound_slices.specs.Effects.{report_of};
+ghost use Rattle.hound_slices.specs.Writing.{IsExplicit};
 ghost use Rattle.hound_slices.specs.Walks.{AnswersPart, Asks, FindsHead, IsStepNumber, bytes_of_part, found_of, part_of, walk_of, walk_with};
 
 use crate::effect::{effect_for_c, report_of};
@@ -80,6 +81,7 @@ fn part_read(walk: &HoundWalk) -> &[u8]
 pub(crate) fn found_for_c(found: Option<WavSpecEx>) -> HoundSpec
     requires sound { IsSoundOption found }
     ensures is { found_of result ≡ found }
+    ensures explicit { IfSome found (λ _. IsExplicit result) }
 {
     match found {
         None => HoundSpec {

@@ -8,4 +8,5 @@ pub mod walk;
 pub mod reader;
 pub mod writer;
 pub mod repair;
+pub mod follow;
 pub mod slices;
