@@ -14,7 +14,7 @@ use Rattle.hound_sample.proofs.Joined.{length-concat}
 use Rattle.hound_writer.specs.{Asked, Begun, Call, Counts, IsStored, field, found_in, publish, start_of}
 use Rattle.hound_repair.proofs.Joining.{AreWide, concat-append, concat_front, wide_front, wide_take}
 use Rattle.hound_writer.proofs.Heads.{head_beyond}
-use Rattle.hound.specs.Following.{number_from}
+use Rattle.hound_follow.specs.{number_from}
 use Rattle.hound.specs.Headline.{Keeps, accepted_by_all, begins_at}
 use Rattle.hound.proofs.Calling.{last_of, length-concat-append}
 use Rattle.hound.proofs.Checkpoints.{accepted_after}
@@ -646,14 +646,15 @@ module _ (s : WavSpecEx) (file : Begun) (calls : List Call) (m : MediumState) (k
       ) in
       covered_from d.first d.rest d.call parts begun k3 k2 k1 k0 d.from d.to le2 le1 le0 to few stored
 
+  pub header_there : (k : ℕ) → begins_at calls m.past ≤ k → k ≤ length m.past → (20 ≤ start) × (start ≤ length (now k))
+  header_there k from to =
+      let head = keeps.promises.head k from to in
+      (head_beyond (now k) s (length_at k) start head, head_is_there (now k) s (length_at k) start head)
+
   length_inside : (k : ℕ) → begins_at calls m.past ≤ k → k ≤ length m.past → start - 4 + 4 ≤ length (now k)
   length_inside k from to =
-      let head = keeps.promises.head k from to in
-      omega (
-        arith,
-        head_is_there (now k) s (length_at k) start head,
-        head_beyond (now k) s (length_at k) start head,
-      )
+      let there = header_there k from to in
+      omega (arith, there.0, there.1)
 
   pub reads_one_by_one : (k3 k2 k1 k0 later a len : ℕ) → begins_at calls m.past ≤ k3 → k3 ≤ k2 → k2 ≤ k1 → k1 ≤ k0
       → k0 ≤ later → later ≤ length m.past

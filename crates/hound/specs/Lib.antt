@@ -45,17 +45,15 @@ pub use Rattle.hound_repair.specs.declared.machine.Repairing.{Repairing}
 pub use Rattle.hound_repair.specs.declared.stages.Stage.{Stage}
 pub use Rattle.hound_repair.specs.declared.stages.Task.{Task}
 pub use Rattle.hound_repair.specs.declared.stages.Unrepairable.{Unrepairable}
-pub use Rattle.hound_follow.specs.{FollowsNext, IsNearerAfter, IsSoundFollower, IsSoundLength, IsSoundRecording, LeavesLook, TakesHeaderPart, TakesRead, TakesReport, after_byte, after_cause, after_count, after_length, after_step, after_walk, begun, begun_again, counted_to, first_walk, look_ended, look_requests, reads_left, recording_of, requested_by, whole_bytes}
+pub use Rattle.hound_follow.specs.{FollowsNext, IsNearerAfter, IsSoundFollower, IsSoundLength, IsSoundRecording, LeavesLook, TakesHeaderPart, TakesRead, TakesReport, after_byte, after_cause, after_count, after_length, after_step, after_walk, begun, begun_again, counted_by, counted_to, first_walk, look_ended, look_requests, number_from, part_for, reads_left, recording_of, requested_by, whole_bytes}
 pub use Rattle.hound_follow.specs.declared.follower.FollowError.{FollowError}
 pub use Rattle.hound_follow.specs.declared.follower.FollowStep.{FollowStep}
 pub use Rattle.hound_follow.specs.declared.follower.Follower.{Follower}
 pub use Rattle.hound_follow.specs.declared.follower.Look.{Look}
 pub use Rattle.hound_follow.specs.declared.follower.Recording.{Recording}
 pub use Rattle.hound.specs.Headline.{BeginInOrder, CanonicalAtEnd, CountedAfterLoss, CountedAtEach, FlushedByFlushes, FrontAtEach, FrontInWrites, HasPublished, HasWholeLength, HeadAtEach, Holds, HoldsAtEnd, IfBegun, IsLeftAfter, IsUncut, Keeps, Kept, KeptAfterLoss, KeptWithin, LastsToEnd, LeftWithin, LosesNothing, MixedInPatches, NeverLess, NoFault, OldOrNewInPatches, Promises, PublishedByFlushes, SaidByFlushes, SaysFrames, StoredAtEach, SurvivesAtEnd, accepted, accepted_as_seen, accepted_by_all, accepted_of, begins_at, contents_at, seen}
-pub use Rattle.hound.specs.Following.{number_from}
 pub use Rattle.hound.specs.Run.{AnswersAll, AnswersCall, AnswersSession, AnswersStep, BeginsAs, EndsAs, IsNotBegunAs, IsReturned, IsSession, Ran, RunsFrom, RunsOn, RunsOnce, RunsUntil, StopsAt, StopsEarly, Takes, accepted_by, accepted_by_steps, all_steps, asked_by, batch_containers, begun_spec, containers_of, end_call, file_of, is_int, is_sixteen, writer_after}
 pub use Rattle.hound.specs.Ending.{actions_left, cuts_left, left_in}
 pub mod Headline
-pub mod Following
 pub mod Run
 pub mod Ending

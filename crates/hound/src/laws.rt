@@ -9,6 +9,7 @@ ghost use Rattle.hound_number.specs.{AreBytes, mix};
 ghost use Rattle.hound_medium.specs.{MediumState, WhereKeeps, WhereTells, moment, overlay};
 ghost use Rattle.hound_durable.specs.{Ascends, SurvivesLoss, place_of};
 ghost use Rattle.hound_sample.specs.{Rejection, int_container};
+ghost use Rattle.hound_follow.specs.{number_from};
 ghost use Rattle.hound_writer.specs.{Advances, mark_of, AcceptAnswer, AcceptsBytes, ChangesSizesOnly, appended, AcceptsEach, i16_bytes, AreKnown, Asked, Begun, Call, IsKnown, Known, Lead, Left, Recorded, returned, sample_count, asked_by_all, found_in, made, marked, new_file, publish, start_of, IsSameFile, Finishes, WriterState, IsWhole, accepted_samples, data_length, IsSound, CountsAtMost, LeavesWriter, PutsAt, ReadsAs, field, Log, Performed, handed_in, log_kind, Directed, IsSynced, AgreeTo, Counts, end_of, IsCutOff, IsStored, DoesBeginnings, LeavesBeginning, Remains, Resumes, beginning, effects_of, stores_name, writer_of};
 ghost use Rattle.hound_writer.specs.declared.recorder.Recorder.{Recorder};
 ghost use Rattle.hound_writer.specs.declared.resuming.FoundFile.{FoundFile};
@@ -24,7 +25,6 @@ ghost use Rattle.hound.specs.declared.session.Begin.{Begin};
 ghost use Rattle.hound.specs.declared.session.End.{End};
 ghost use Rattle.hound.specs.Ending.{actions_left};
 ghost use Rattle.hound.specs.Headline.{HasPublished, Holds, HoldsAtEnd, IsLeftAfter, Keeps, Kept, KeptWithin, LeftWithin, accepted_as_seen, accepted_by_all, begins_at, seen};
-ghost use Rattle.hound.specs.Following.{number_from};
 ghost use Rattle.hound.specs.Run.{BeginsAs, EndsAs, Ran, asked_by, containers_of, RunsOn, all_steps};
 
 use crate::session::Step;
@@ -269,7 +269,12 @@ pub fn a_request_ends()
 /// So it is also where the length's four bytes are taken in four states, the last byte first (`torn`): a system that
 /// reads four bytes at once may mix those of two lengths, in any order, and count more than was accepted. A length that
 /// stays the same in these states is the one that is taken (`same`).
+///
+/// The bytes of the length are there in each of these states (`there`).
 pub fn a_follower_reads_accepted_samples()
+    ensures there { (s : WavSpecEx) (file : Begun) (calls : List Call) (m : MediumState) → Keeps s file calls m
+        → (k : ℕ) → begins_at calls m.past ≤ k → k ≤ length m.past →
+        (20 ≤ start_of s file) × (start_of s file ≤ length (moment m.start m.past k)) }
     ensures counted { (s : WavSpecEx) (file : Begun) (calls : List Call) (m : MediumState) → Keeps s file calls m
         → (k : ℕ) → begins_at calls m.past ≤ k → k ≤ length m.past →
         field (start_of s file - 4) (moment m.start m.past k)

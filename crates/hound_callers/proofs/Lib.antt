@@ -6,3 +6,4 @@ pub mod Repeating
 pub mod Mending
 pub mod Faultless
 pub mod Requesting
+pub mod Counting

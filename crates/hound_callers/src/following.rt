@@ -1,20 +1,20 @@
 // Reading a recording while it is made.
-ghost use Rattle.std.specs.Prelude.{◌≡◌, ℕ, ◌-◌, ◌≤◌, ◌++◌, List, IfErr, IfOk, drop, length, take};
+ghost use Rattle.std.specs.Prelude.{◌≡◌, ℕ, ◌-◌, ◌≤◌, ◌++◌, List, Result, IfErr, IfOk, drop, length, take};
 ghost use Rattle.std.specs.List.{concat};
-ghost use Rattle.hound.specs.{AreBytes, Begun, Call, FollowsNext, IsSoundFollower, IsSoundRecording, Keeps, WavSpecEx, accepted_by_all, begins_at, field, found_in, greatest_u32, moment, requested_by, riff_size, start_of, whole_bytes};
+ghost use Rattle.hound.specs.{AreBytes, Begun, Call, FollowError, FollowStep, FollowsNext, IsSoundFollower, IsSoundRecording, Keeps, WavSpecEx, accepted_by_all, begins_at, field, found_in, greatest_u32, moment, part_for, riff_size, start_of, whole_bytes};
 ghost use Rattle.hound.specs.declared.Error.TheVariants.{OutOfMemory};
 ghost use Rattle.hound.specs.declared.Report.TheVariants.{Done};
 
 use hound::{
-    FollowError, FollowStep, Follower, Journal, Look, Placed, Recording, Report,
+    Follower, Journal, Look, Placed, Recording, Report,
     a_follower_reads_accepted_samples, a_look_takes_the_last_byte_first,
 };
 use std::alloc::Global;
-use std::result;
 
 // The bytes from a place on, at most so many.
 fn part_of(bytes: &[u8], place: u64, count: u32) -> &[u8]
-    ensures { result.now ≡ take count (drop place bytes.now) }
+    ensures part { result.now ≡ take count (drop place bytes.now) }
+    ensures bytes { AreBytes bytes.now }
 {
     if place >= bytes.len() as u64 {
         return &bytes[bytes.len()..];
@@ -29,18 +29,20 @@ fn step_at(
     journal: &Journal,
     k: usize,
     follower: &mut Follower,
-) -> hound::Result<result::Result<FollowStep, FollowError>>
+) -> hound::Result<()>
     requires sound { IsSoundFollower follower.old }
     requires past { k ≤ length (⟦<Journal as Placed>⟧.state journal.now).past }
     ensures sound { IsSoundFollower follower.new }
-    ensures steps { let m = ⟦<Journal as Placed>⟧.state journal.now in IfOk result (λ step.
-        AreBytes (moment m.start m.past k) × (let (place, n) = requested_by follower.old in
-        FollowsNext Done (take n (drop place (moment m.start m.past k))) follower.old follower.new step)) }
+    ensures steps { let m = ⟦<Journal as Placed>⟧.state journal.now in IfOk result (λ _.
+        AreBytes (moment m.start m.past k) × (step : Result FollowStep FollowError)
+        × FollowsNext Done (part_for follower.old (moment m.start m.past k)) follower.old follower.new step) }
     ensures err { IfErr result (λ e. e ≡ OutOfMemory) }
 {
     let bytes = journal.bytes_after(alloc, k)?;
     let (place, count) = follower.request();
-    Ok(follower.next(part_of(&bytes, place, count), Report::Done))
+    // What it returns is also known of the follower.
+    let _ = follower.next(part_of(&bytes, place, count), Report::Done);
+    Ok(())
 }
 
 /// What a program has read that follows a recording. It takes the four bytes of the data length, the last one first,
@@ -82,10 +84,6 @@ pub fn follow_meanwhile(
     step_at(alloc, journal, k2, &mut follower)?;
     step_at(alloc, journal, k1, &mut follower)?;
     step_at(alloc, journal, k0, &mut follower)?;
-    let counted = match follower {
-        Follower::Walks(_) => 0,
-        Follower::Looks(recording, _) => recording.counted,
-    };
     let bytes = journal.bytes_after(alloc, later)?;
-    Ok(part_of(&bytes, recording.data_start, counted).to_vec(alloc)?)
+    Ok(part_of(&bytes, recording.data_start, follower.counted()).to_vec(alloc)?)
 }

@@ -1,5 +1,5 @@
 -- A program that follows a recording while another one makes it.
-use Rattle.std.specs.Prelude.{◌≡◌, ℕ, zero, suc, ◌+◌, ◌-◌, ◌*◌, ◌%◌, ◌^◌, ◌≤◌, ◌<◌, ⊤, max, nat_lt, ◌==◌, if◌then◌else◌, List, [], ◌∷◌, length, take, Option, None, Some, Result, Ok, Err}
+use Rattle.std.specs.Prelude.{◌≡◌, ℕ, zero, suc, ◌+◌, ◌-◌, ◌*◌, ◌%◌, ◌^◌, ◌≤◌, ◌<◌, ⊤, max, nat_lt, ◌==◌, if◌then◌else◌, List, [], ◌∷◌, ◌++◌, length, take, drop, Option, None, Some, Result, Ok, Err}
 use Rattle.hound_number.specs.{number}
 use Rattle.hound_spec.specs.{greatest_u32, riff_size}
 use Rattle.hound_spec.specs.declared.spec.WavSpecEx.{WavSpecEx}
@@ -32,6 +32,11 @@ abbrev pub recording_of : Follower → Option Recording
 recording_of (Walks walk) = None
 recording_of (Looks recording look) = Some recording
 
+-- how many bytes of whole frames it has counted
+abbrev pub counted_by : Follower → ℕ
+counted_by (Walks walk) = 0
+counted_by (Looks recording look) = recording.counted
+
 -- Table: which bytes a follower requests (Follower, Bytes, Place).
 -- | Walks | as many as the next part of the header has | after the parts before |
 -- | Looks, at the Length | 4 | those of the data length |
@@ -40,6 +45,17 @@ abbrev pub requested_by : Follower → ℕ × ℕ
 requested_by (Walks walk) = (part_start walk.part walk.taken, part_length walk.part)
 requested_by (Looks recording Length) = (recording.data_start - 4, 4)
 requested_by (Looks recording (Byte n above)) = (recording.data_start - 4 + n, 1)
+
+-- the bytes that it requests of a file
+abbrev pub part_for : Follower → List ℕ → List ℕ
+part_for follower file = let (place, n) = requested_by follower in take n (drop place file)
+
+-- The number of the four bytes from a place on, where each of them is from contents of its own: the first byte from the
+-- first of these, and so on (RIFF: "all numbers are little-endian").
+abbrev pub number_from : ℕ → List ℕ → List ℕ → List ℕ → List ℕ → ℕ
+number_from p first second third fourth =
+    number (take 1 (drop p first) ++ (take 1 (drop (p + 1) second)
+    ++ (take 1 (drop (p + 2) third) ++ take 1 (drop (p + 3) fourth))))
 
 -- a walk at the first part of a header
 abbrev pub first_walk : HeadWalk

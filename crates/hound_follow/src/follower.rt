@@ -1,7 +1,7 @@
 // The reads by which a program follows a recording.
 ghost use Rattle.std.specs.Prelude.{◌≡◌};
 ghost use Rattle.hound_walk.specs.{IsSoundOption, IsSoundSpec};
-ghost use Rattle.hound_follow.specs.Following.{FollowsNext, IsSoundFollower, IsSoundLength, IsSoundRecording, TakesHeaderPart, TakesRead, after_byte, after_count, after_length, look_ended, first_walk, recording_of, requested_by, look_requests, whole_bytes};
+ghost use Rattle.hound_follow.specs.Following.{FollowsNext, IsSoundFollower, IsSoundLength, IsSoundRecording, TakesHeaderPart, TakesRead, after_byte, after_count, after_length, counted_by, look_ended, first_walk, recording_of, requested_by, look_requests, whole_bytes};
 ghost use Rattle.hound_follow.specs.declared.follower.Follower.TheVariants.{Looks, Walks};
 ghost use Rattle.hound_follow.specs.declared.follower.Look.TheVariants.{Byte};
 
@@ -224,6 +224,16 @@ impl Follower {
         match self {
             Follower::Walks(_) => None,
             Follower::Looks(recording, _) => Some(recording),
+        }
+    }
+
+    /// How many bytes of whole frames the header has counted, at most so far; 0 before all of it was there.
+    pub fn counted(self) -> u32
+        ensures { result ≡ counted_by self }
+    {
+        match self {
+            Follower::Walks(_) => 0,
+            Follower::Looks(recording, _) => recording.counted,
         }
     }
 

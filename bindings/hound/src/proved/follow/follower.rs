@@ -110,13 +110,10 @@ impl Recording {
             let follower = Follower::Looks(self, Look::Length);
             return ended(follower, Err(FollowError::TooLong));
         }
-        let (counted, step) = match self.whole_frames(length) {
-            whole if whole > self.counted => (whole, FollowStep::Grew),
-            _ => (self.counted, FollowStep::NothingNew),
-        };
-        let last = length;
-        let follower = Follower::Looks(Recording { counted, last, ..self }, Look::Length);
-        ended(follower, Ok(step))
+        let whole = self.whole_frames(length);
+        let recording = Recording { counted: whole.max(self.counted), last: length, ..self };
+        let step = if whole > self.counted { FollowStep::Grew } else { FollowStep::NothingNew };
+        ended(Follower::Looks(recording, Look::Length), Ok(step))
     }
 
     // What comes of all four bytes of the data length.
@@ -138,10 +135,10 @@ impl Recording {
             return ended(follower, Err(FollowError::Truncated));
         }
         let from_here = above * 256 + bytes[0] as u32;
-        match number {
-            0 => self.after_count(from_here),
-            _ => requests(Follower::Looks(self, Look::Byte(number - 1, from_here))),
+        if number == 0 {
+            return self.after_count(from_here);
         }
+        requests(Follower::Looks(self, Look::Byte(number - 1, from_here)))
     }
 
     // What comes of what was requested of the data length.

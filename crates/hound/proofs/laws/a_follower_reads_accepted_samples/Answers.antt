@@ -1,4 +1,4 @@
-use Rattle.hound.proofs.Following.{counted, reads, reads_one_by_one, same_length}
+use Rattle.hound.proofs.Following.{counted, header_there, reads, reads_one_by_one, same_length}
 use Rattle.hound.proofs.laws.a_follower_reads_accepted_samples.Goals as goal
 
 pub returns-clause-counted : goal.returns-clause-counted
@@ -12,3 +12,6 @@ returns-clause-torn c = reads_one_by_one
 
 pub returns-clause-same : goal.returns-clause-same
 returns-clause-same c = same_length
+
+pub returns-clause-there : goal.returns-clause-there
+returns-clause-there c = header_there
