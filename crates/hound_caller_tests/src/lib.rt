@@ -7,6 +7,8 @@ mod calling;
 #[cfg(test)]
 mod files;
 #[cfg(test)]
+mod following;
+#[cfg(test)]
 mod losses;
 #[cfg(test)]
 mod recording;
