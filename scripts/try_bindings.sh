@@ -91,7 +91,7 @@ wrong_disks() {
 wrong_libraries() {
     local call wrap=()
     for call in info version kind beginning walk_next find_damage repair repair_to_end size header sizes \
-        recorder_{resume,write,next} repairer_next {to,from,dither}_f{32,64} f{32_to_f64,64_to_f32} \
+        recorder_{resume,write,next} repairer_next follower_next {to,from,dither}_f{32,64} f{32_to_f64,64_to_f32} \
         {value,container}_{8,16,24,32} {write,append,encode}_{i16,i32,f32}; do wrap+=("-Wl,--wrap=hound_$call"); done
     "$cc" $strict "${wrap[@]}" bindings/tests/calls.c bindings/tests/wrong.c "$library" -o "$work/wrong" \
         && "$work/wrong" || return 1
@@ -119,7 +119,7 @@ uninitialized() {
 header() {
     local words
     echo '#include "hound.h"' > "$work/header.c"
-    "$cc" $strict -std=c99 -fsyntax-only "$work/header.c" bindings/c/repair.c \
+    "$cc" $strict -std=c99 -fsyntax-only "$work/header.c" bindings/c/repair.c bindings/c/follow.c \
         && "$cc" $strict -std=c11 -fsyntax-only "$work/header.c" || return 1
     printf '#include <stdio.h>\n#include "hound_file.h"\n' > "$work/late.c" \
         # after a header of the system that has chosen what to declare
@@ -138,7 +138,7 @@ is_i386() {
 on_i386() { "$cc" -m32 $strict -std=c99 -fsyntax-only "$work/header.c" \
     && "$cc" -m32 $strict -std=c11 -fsyntax-only "$work/header.c"; }
 header_of_cpp() {
-    printf '#include "hound_file.h"\nint main() { return hound_error_text(0) == 0; }\n' > "$work/header.cpp"
+    printf '#include "hound_follow.h"\nint main() { return hound_error_text(0) == 0; }\n' > "$work/header.cpp"
     c++ $strict -std=c++98 -Wno-long-long -fsyntax-only "$work/header.cpp" \
         && c++ $strict -std=c++17 "$work/header.cpp" -o "$work/header"
 }
@@ -159,7 +159,8 @@ installed() { # PREFIX
         && ln -s libhound_c.so.0 "$1/lib/libhound_c.so" && cp -a "$1" "$1.copy" && touch "$1.copy/lib/other" || return 1
     ! command -v dash > /dev/null \
         || { ! dash bindings/c/install.sh "$1" 2> "$1.said" && grep -q "needs bash" "$1.said"; } || return 1
-    cmp bindings/c/hound_file.h "$1/include/hound_file.h" && bindings/c/install.sh --help | grep -q uninstall \
+    cmp bindings/c/hound_file.h "$1/include/hound_file.h" && cmp bindings/c/hound_follow.h "$1/include/hound_follow.h" \
+        && bindings/c/install.sh --help | grep -q uninstall \
         && bindings/c/install.sh --uninstall "$1.copy" && [ "$(cd "$1.copy" && find . ! -type d)" = ./lib/other ]
 }
 no_library() {
@@ -270,7 +271,7 @@ python_types() { cd bindings/python \
 python_systems() { "$python" bindings/python/tests/test_windows.py && "$python" bindings/python/tests/test_backend.py; }
 python_faults() { "$python" bindings/tests/python_faults.py 20 short; }
 parts() { "$python" bindings/tests/parts.py 3 short; }
-examples() { local name; for name in cat record repair; do "$cc" $strict "bindings/c/$name.c" "$library" -o \
+examples() { local name; for name in cat follow record repair; do "$cc" $strict "bindings/c/$name.c" "$library" -o \
     "$work/$name" || return 1; done; }
 rows() { "$python" bindings/tests/rows.py "$work/cat" "$work/record"; }
 cargo_tests() { cargo test -q --offline --manifest-path bindings/hound/Cargo.toml --target-dir "$work/target"; }
@@ -468,7 +469,7 @@ if has "$cc" "the users in C"; then
     has_flags && check "on x86-64 before v2 the library is compiled from hound_c.c" old_processor
     has cmake "the library in CMake" \
         && check "CMake finds the libraries that it and bindings/c/install.sh installed, and builds the one of a clone" by_cmake
-    check "the examples cat.c, record.c and repair.c" examples
+    check "the examples cat.c, follow.c, record.c and repair.c" examples
 fi
 if has c++ "the headers and hound_c.c in C++"; then
     check "the headers are C++98 and C++17" header_of_cpp
