@@ -77,6 +77,11 @@ class Follower(OneAtATime):
         self._file.close()
 
     @property
+    def path(self) -> Path:
+        path: Path = self._name
+        return path
+
+    @property
     def info(self) -> Optional[Info]:
         """What the header says, once all of it is there."""
         follower = self._follower
