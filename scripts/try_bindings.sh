@@ -271,6 +271,7 @@ python_types() { cd bindings/python \
 python_systems() { "$python" bindings/python/tests/test_windows.py && "$python" bindings/python/tests/test_backend.py; }
 python_faults() { "$python" bindings/tests/python_faults.py 20 short; }
 parts() { "$python" bindings/tests/parts.py 3 short; }
+followed() { "$python" bindings/tests/follow.py 26 1000; }
 examples() { local name; for name in cat follow record repair; do "$cc" $strict "bindings/c/$name.c" "$library" -o \
     "$work/$name" || return 1; done; }
 rows() { "$python" bindings/tests/rows.py "$work/cat" "$work/record"; }
@@ -493,6 +494,7 @@ if has python3 "the Python package" && has "$cc" "the Python package"; then
         has strace "killed Python programs, and failing calls of theirs" \
             && check "killed Python programs, and failing calls of theirs" python_faults
         check "killed recordings in parts, by hound-wav, Python, C, Node and Cargo" parts
+        check "killed recordings that are followed meanwhile, by C, Python and hound-wav, and wrong followers" followed
         check "files of hound_rows, cut files and each code, beside the model, through cat.c and by record.c" rows
         check "the Python program of docs/BINDINGS.md" page_of_python
     else
