@@ -266,8 +266,8 @@ if [ ${#only[@]} -eq 0 ]; then
     compiled x86_64-pc-windows-msvc hound_c -- -isystem "$work/declared"
     mingw=/usr/x86_64-w64-mingw32/include musl=/usr/include/x86_64-linux-musl
     if has_headers $mingw mingw-w64-x86-64-dev Windows; then
-        compiled x86_64-pc-windows-msvc cat follow record repair -- -isystem $mingw -U_MSC_VER -D__GNUC__=4 -D__MINGW32__ \
-            -D__MINGW64__
+        compiled x86_64-pc-windows-msvc cat follow record repair -- -isystem $mingw -U_MSC_VER -D__GNUC__=4 \
+            -D__MINGW32__ -D__MINGW64__
     fi
     if has_headers $musl musl-dev "macOS and FreeBSD"; then
         compiled arm64-apple-macos cat follow record repair -- -isystem $musl -DF_FULLFSYNC=51

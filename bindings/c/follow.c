@@ -1,10 +1,10 @@
-/* Writes the samples of a recording to standard output while another program makes it, as the file stores them, and ends
-   once that has ended. The file may be missing yet where --timeout SECONDS says how long nothing new may come: after
-   that it is an error. With --parts it goes on in take-002.wav, take-003.wav and so on, as record.c --split makes them.
-   That a recorder has ended is known by its lock. For one that locks nothing, such as a program in Node, --idle SECONDS
-   says how long it waits for more. Between two looks it waits for --poll MILLISECONDS (50). The status is 0 where all
-   was written that the recorder had accepted. Where it was killed, and a repair brings more back, standard error says
-   how much, and the status is 1.
+/* Writes the samples of a recording to standard output while another program makes it, as the file stores them, and
+   ends once that has ended. The file may be missing yet where --timeout SECONDS says how long nothing new may come:
+   after that it is an error. With --parts it goes on in take-002.wav, take-003.wav and so on, as record.c --split makes
+   them. That a recorder has ended is known by its lock. For one that locks nothing, such as a program in Node, --idle
+   SECONDS says how long it waits for more. Between two looks it waits for --poll MILLISECONDS (50). The status is 0
+   where all was written that the recorder had accepted. Where it was killed, and a repair brings more back, standard
+   error says how much, and the status is 1.
      cc -Ibindings/c bindings/c/follow.c bindings/lib/x86_64-linux/libhound_c.a -o follow
      ./follow take.wav | ./meter */
 #include "hound_follow.h"

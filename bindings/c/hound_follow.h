@@ -75,8 +75,8 @@ static inline int32_t hound_follow_look(hound_file *file, hound_follower *follow
     return code;
 }
 
-/* Whether the file is the recording that it was: its last bytes that were given are where they were. Where none were its
-   header is the same. */
+/* Whether the file is the recording that it was: its last bytes that were given are where they were. Where none were
+   its header is the same. */
 static inline int hound_follow_is_same(hound_follow *follow) {
     uint8_t now[HOUND_FOLLOW_TAIL];
     uint64_t place = follow->follower.data_start + follow->given - follow->kept;
@@ -105,8 +105,8 @@ static inline int32_t hound_follow_look_for_more(hound_follow *follow) {
     return code < 0 ? code : 0;
 }
 
-/* Gives the next samples, as the file stores them: how many bytes of whole frames, as many as are counted and have room;
-   0 where nothing new is counted, or the header isn't whole yet; or an error, at which none are given. It never
+/* Gives the next samples, as the file stores them: how many bytes of whole frames, as many as are counted and have
+   room; 0 where nothing new is counted, or the header isn't whole yet; or an error, at which none are given. It never
    waits. */
 static inline int64_t hound_follow_read(hound_follow *follow, uint8_t *out, size_t capacity) {
     hound_follower *follower = &follow->follower;
@@ -129,11 +129,11 @@ static inline int64_t hound_follow_read(hound_follow *follow, uint8_t *out, size
 }
 
 /* Whether a program that locks the file records, appends to or repairs it: 1 or 0; or -1 where the system doesn't say
-   so, or the file isn't the recording that it was. Where another file is at the path, and nothing was given of this one,
-   that one is followed from now on, because a recorder that fails removes its file; else that is -1, too, once nobody
-   records this one. For a moment the file is locked for readers. So ask only where nothing new is counted, at most once
-   a second, and not in the first second while no header is there, because a recorder makes its file before it locks
-   it. */
+   so, or the file isn't the recording that it was. Where another file is at the path, and nothing was given of this
+   one, that one is followed from now on, because a recorder that fails removes its file; else that is -1, too, once
+   nobody records this one. For a moment the file is locked for readers. So ask only where nothing new is counted, at
+   most once a second, and not in the first second while no header is there, because a recorder makes its file before it
+   locks it. */
 static inline int hound_follow_is_recorded(hound_follow *follow) {
     int is_recorded, other = -1;
     if (hound_file_is_at(follow->file.descriptor, follow->path) == 0)
@@ -151,8 +151,8 @@ static inline int hound_follow_is_recorded(hound_follow *follow) {
     return is_recorded;
 }
 
-/* How a file was left that nobody records: HOUND_CUT_OFF where the recorder was killed. Then a repair adds `frames` less
-   `counted` frames, which weren't given. Nothing is written. */
+/* How a file was left that nobody records: HOUND_CUT_OFF where the recorder was killed. Then a repair adds `frames`
+   less `counted` frames, which weren't given. Nothing is written. */
 static inline int32_t hound_follow_find(hound_follow *follow, hound_repair_t *found) {
     uint64_t length;
     int is_regular;

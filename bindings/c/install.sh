@@ -24,8 +24,8 @@ root=${DESTDIR:-}$1
 shared=libhound_c.so
 major=$(sed -n 's/^#define HOUND_VERSION_MAJOR //p' "$here/hound.h")
 if [ -n "$is_removed" ]; then
-    rm -f "$root"/include/hound{,_file,_follow}.h "$root"/lib/libhound_c.a "$root/lib/$shared" "$root/lib/$shared.$major" \
-        "$root/lib/pkgconfig/hound.pc"
+    rm -f "$root"/include/hound{,_file,_follow}.h "$root"/lib/libhound_c.a "$root/lib/$shared" \
+        "$root/lib/$shared.$major" "$root/lib/pkgconfig/hound.pc"
     rm -f "$root"/lib/cmake/hound/hound-config{,-version}.cmake
     echo "removed from: $root"
     exit 0

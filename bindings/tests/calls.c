@@ -424,10 +424,11 @@ static void followers(void) {
     looks(&follower, file, sizeof file, HOUND_NOTHING_NEW, 1, UINT32_MAX - 49, "and is there again");
 }
 
-/* Each read is requested again where its report is left out; one that fails, or is short, ends the look. Bytes past what
-   was requested mean nothing. The four bytes of the length come from the last to the first. */
+/* Each read is requested again where its report is left out; one that fails, or is short, ends the look. Bytes past
+   what was requested mean nothing. The four bytes of the length come from the last to the first. */
 static void reads_of_followers(void) {
-    static const struct { uint64_t place; uint32_t length; } of_length[] = {{52, 4}, {55, 1}, {54, 1}, {53, 1}, {52, 1}};
+    static const struct { uint64_t place; uint32_t length; } of_length[] = {
+        {52, 4}, {55, 1}, {54, 1}, {53, 1}, {52, 1}};
     uint8_t file[sizeof listed];
     hound_follower follower = HOUND_FOLLOWER_BEGIN;
     memcpy(file, listed, sizeof file);

@@ -1,13 +1,13 @@
 #!/usr/bin/env python3
-"""Follows recordings that are killed. Recorders of C, Python, the command, Node and Cargo record what they are given, in
-one file or in parts, durable or not, and are killed at random moments; some are then continued by another one, which
+"""Follows recordings that are killed. Recorders of C, Python, the command, Node and Cargo record what they are given,
+in one file or in parts, durable or not, and are killed at random moments; some are then continued by another one, which
 repairs the file first. A follower of another language reads the files meanwhile, until it ends by itself: each sample
 that it gives has to be the accepted one, each that the headers count has to be given, and its status says whether a
-repair brings more back. What becomes another file is an error. Before that followers.c does the same within one program,
-many times, beside wrong followers. Files are read here by hand.
+repair brings more back. What becomes another file is an error. Before that followers.c does the same within one
+program, many times, beside wrong followers. Files are read here by hand.
 
-usage: follow.py [RUNS [FOLLOWERS_RUNS]]     (200 of programs and 10,000 of followers.c where none is given. It needs the
-package hound_bindings on the path, cc, and node and cargo, or says so)"""
+usage: follow.py [RUNS [FOLLOWERS_RUNS]]     (200 of programs and 10,000 of followers.c where none is given. It needs
+the package hound_bindings on the path, cc, and node and cargo, or says so)"""
 import collections
 import concurrent.futures
 import fcntl
@@ -46,7 +46,8 @@ IN_NODE = f"""
 import fs from "node:fs";
 import {{ continueFile, record }} from "{TOP}/bindings/js/hound.js";
 const [path, ...how] = process.argv.slice(2), block = Buffer.alloc(4000);
-const format = {{ sampleRate: 48000, channels: 2, bitsPerSample: 16 }}, options = how.includes("parts") ? {{ split: {PART} }} : {{}};
+const format = {{ sampleRate: 48000, channels: 2, bitsPerSample: 16 }};
+const options = how.includes("parts") ? {{ split: {PART} }} : {{}};
 const recorder = await (how.includes("append") ? continueFile(path, format) : record(path, format, options));
 let held = Buffer.alloc(0);
 for (let count; (count = fs.readSync(0, block)) > 0;) {{
@@ -141,7 +142,7 @@ def followers_in(folder):
         return lambda path, idle, parts: [*words, path, "--idle", str(idle), *["--parts"] * parts]
 
     return {
-        "follow.c": lambda path, idle, parts: by_options([in_c])(path, idle, parts) + ["--timeout", "60", "--poll", "3"],
+        "follow.c": lambda *how: by_options([in_c])(*how) + ["--timeout", "60", "--poll", "3"],
         "Python": lambda path, idle, parts: [sys.executable, in_python, path, str(idle), *["parts"] * parts],
         "hound-wav": by_options(command),
     }
@@ -271,7 +272,8 @@ def runs(kinds, follows, count, seed, folder):
 
 def check_other_files(follows, folder):
     """What becomes another file while it is followed is an error, and nothing of that is given."""
-    whole = b"RIFF" + struct.pack("<I", 36 + 4000) + b"WAVEfmt " + struct.pack("<IHHIIHH", 16, 1, 2, 48000, 192000, 4, 16)
+    form = struct.pack("<IHHIIHH", 16, 1, 2, 48000, 192000, 4, 16)
+    whole = b"RIFF" + struct.pack("<I", 36 + 4000) + b"WAVEfmt " + form
     whole += b"data" + struct.pack("<I", 4000) + DATA[:4000]
     for name, follow in follows.items():
         for what in "emptied", "cut off", "recorded anew", "replaced":

@@ -2,11 +2,11 @@
      cc -O2 -Ibindings/c bindings/tests/followers.c bindings/lib/x86_64-linux/libhound_c.a -o followers
      ./followers FOLDER RUNS [SEED]
    In each run a process records blocks of random bytes by hound_file.h, and says in shared memory what was accepted. It
-   stores the sizes of the file byte by byte, with pauses, and in half of the runs a twentieth of its writes fail after a
-   part. After the kill another process continues half of the recordings, repaired first, and is killed, too. Meanwhile
-   hound_follow.h follows the file. Each byte that it gives has to be that of the accepted samples, and accepted when it
-   is given; and at the end it has to have given each that the header counts. Three wrong followers look at the same file,
-   and have to be found wrong, if there are at least 1,000 runs:
+   stores the sizes of the file byte by byte, with pauses, and in half of the runs a twentieth of its writes fail after
+   a part. After the kill another process continues half of the recordings, repaired first, and is killed, too.
+   Meanwhile hound_follow.h follows the file. Each byte that it gives has to be that of the accepted samples, and
+   accepted when it is given; and at the end it has to have given each that the header counts. Three wrong followers
+   look at the same file, and have to be found wrong, if there are at least 1,000 runs:
      size     takes all that the file holds for samples
      up       reads the length from its first byte to the last
      early    ends once the file is unlocked, without another look */
@@ -25,8 +25,8 @@
 
 enum { MOST = 1 << 21 }; /* bytes of samples of a recording */
 
-/* What recorders say: how many bytes of samples were accepted, how many a checkpoint has counted that returned, and what
-   they are. */
+/* What recorders say: how many bytes of samples were accepted, how many a checkpoint has counted that returned, and
+   what they are. */
 static struct {
     volatile uint32_t accepted, published, faults, checkpoints;
     uint8_t samples[MOST];
@@ -79,7 +79,8 @@ static void record(const char *path, const hound_spec *spec, int is_continued, u
     uint32_t frame = (uint32_t)spec->channels * spec->bytes_per_sample;
     is_recorder = 1, state = seed;
     prctl(PR_SET_PDEATHSIG, SIGKILL);
-    code = is_continued ? hound_file_continue(&file, path, spec, 0, &found) : hound_file_create(&file, path, spec, 0, 0);
+    code = is_continued ? hound_file_continue(&file, path, spec, 0, &found)
+                        : hound_file_create(&file, path, spec, 0, 0);
     if (code < 0) _exit(0); /* by a fault */
     take_up(&file);
     for (;;) {
@@ -241,8 +242,8 @@ int main(int argc, char **argv) {
         if (is_open) compare(run), close_all();
     }
     unlink(path);
-    printf("followers: %u runs, %u with a file, %u continued, %u with samples; %llu checkpoints, %llu faults, %llu looks,"
-           " %llu bytes; %u kills within a length\n",
+    printf("followers: %u runs, %u with a file, %u continued, %u with samples; %llu checkpoints, %llu faults, "
+           "%llu looks, %llu bytes; %u kills within a length\n",
            runs, total.begun, total.continued, total.given, total.checkpoints, total.faults, total.looks, total.bytes,
            total.cut);
     int is_right = ways[RIGHT].wrong == 0 && ways[RIGHT].missing == 0;

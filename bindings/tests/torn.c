@@ -1,5 +1,5 @@
-/* What a program reads of four bytes that another one writes meanwhile: why a follower reads a data length byte by byte,
-   from the last one to the first.
+/* What a program reads of four bytes that another one writes meanwhile: why a follower reads a data length byte by
+   byte, from the last one to the first.
      cc -O2 bindings/tests/torn.c -o torn && ./torn FILE PLACE WAY LOOKS
    One process writes growing numbers to a place of the file without a pause, each by one `pwrite` of four bytes, and
    this one reads them in this way:
@@ -8,8 +8,8 @@
      page    by one of 4096 bytes from the file's first one on
      up      by four of a byte each, from the first to the last
      down    from the last to the first
-   It says how many of so many looks found more than any write had begun by then, which is too much, and how many found a
-   number that is never written, which is torn. It needs two processors. */
+   It says how many of so many looks found more than any write had begun by then, which is too much, and how many found
+   a number that is never written, which is torn. It needs two processors. */
 #define _GNU_SOURCE
 #include <fcntl.h>
 #include <signal.h>
@@ -74,8 +74,8 @@ int main(int argc, char **argv) {
     shared->is_over = 1;
     waitpid(writer, NULL, 0);
     unlink(argv[1]);
-    printf("torn: %s: %llu looks, %llu of which found another number; %llu too much, %llu torn", argv[3], looks, changes,
-           too_much, torn);
+    printf("torn: %s: %llu looks, of which %llu found another number; %llu too much, %llu torn", argv[3], looks,
+           changes, too_much, torn);
     if (too_much) printf(" (such as %#x, after %#x and before %#x)", first[1], first[0], first[2]);
     puts("");
     return 0;

@@ -28,9 +28,9 @@ fn is_at(_: &fs::File, _: &path::Path) -> io::Result<bool> {
     Ok(true)
 }
 
-/// Locks an open file until it is closed, in ten attempts 2 ms apart (own): where another program has locked it, or this one has
-/// opened and locked it before, the error is `WouldBlock`; on Windows also where it has locked the same `File`. A file
-/// system without locks is no error, and neither is another system than Unix and Windows.
+/// Locks an open file until it is closed, in ten attempts 2 ms apart (own): where another program has locked it, or
+/// this one has opened and locked it before, the error is `WouldBlock`; on Windows also where it has locked the same
+/// `File`. A file system without locks is no error, and neither is another system than Unix and Windows.
 pub fn lock(file: &fs::File) -> io::Result<()> {
     // A program that follows a recording locks it for a moment, to see whether it is still recorded.
     for attempts_left in (0..10).rev() {

@@ -239,7 +239,8 @@ def followers(path: Path, pace: _Pace, timeout: Optional[float], parts: bool) ->
     while True:
         pace.begin()
         try:
-            follower = _opened(path if number == 1 else part_name(path, number), pace, number == 1 and timeout is not None)
+            name = path if number == 1 else part_name(path, number)
+            follower = _opened(name, pace, number == 1 and timeout is not None)
         except FileNotFoundError:
             if number == 1:
                 raise

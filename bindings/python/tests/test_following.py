@@ -74,10 +74,11 @@ class Following(Followed):
             for dtype in None, "float32", "int32", "float64":
                 for always_2d in False, True:
                     with hound.Follower(self.path) as one:
-                        got, wanted = one.read(2, dtype, always_2d=always_2d), hound.open(self.path)
-                        with wanted:
-                            other = wanted.read(2, dtype, always_2d=always_2d)
-                        self.assertEqual((got.tolist(), memoryview(got).format), (other.tolist(), memoryview(other).format))
+                        got = one.read(2, dtype, always_2d=always_2d)
+                    with hound.open(self.path) as reader:
+                        other = reader.read(2, dtype, always_2d=always_2d)
+                    self.assertEqual(got.tolist(), other.tolist())
+                    self.assertEqual(memoryview(got).format, memoryview(other).format)
             self.fails(Cause.TOO_WIDE, lambda: follower.read(dtype="int16"))
             self.assertEqual(follower.read(dtype="int32"), wide)  # Nothing was taken.
 
