@@ -48,9 +48,9 @@ static int copy(const char *path) {
         } else if (is_over) {
             return 0;
         } else if (may_ask()) {
-            int is_recorded = hound_follow_is_recorded(&follow);
-            if (is_recorded < 0) return fail(path, hound_follow_reason(&follow, HOUND_NOT_PERFORMED, room));
-            last_asked = hound_file_milliseconds(), is_over = !is_recorded;
+            int32_t code = hound_follow_is_recorded(&follow);
+            if (code < 0) return fail(path, hound_follow_reason(&follow, code, room));
+            last_asked = hound_file_milliseconds(), is_over = code == 0;
         } else if (is_late()) {
             return fail(path, "nothing new came");
         }

@@ -9,7 +9,7 @@
          count = hound_follow_read(&follow, bytes, sizeof bytes);
          if (count > 0) use(&follow.follower.spec, bytes, (size_t)count), is_over = 0;
          else if (is_over) break;
-         else if (..a second has passed..) is_over = hound_follow_is_recorded(&follow) == 0;
+         else if (..a second has passed..) count = hound_follow_is_recorded(&follow), is_over = count == 0;
          else ..wait a little..
      }
      if (count < 0) puts(hound_follow_reason(&follow, (int32_t)count, room));
@@ -128,13 +128,13 @@ static inline int64_t hound_follow_read(hound_follow *follow, uint8_t *out, size
     return (int64_t)count;
 }
 
-/* Whether a program that locks the file records, appends to or repairs it: 1 or 0; or -1 where the system doesn't say
-   so, or the file isn't the recording that it was. Where another file is at the path, and nothing was given of this
-   one, that one is followed from now on, because a recorder that fails removes its file; else that is -1, too, once
-   nobody records this one. For a moment the file is locked for readers. So ask only where nothing new is counted, at
-   most once a second, and not in the first second while no header is there, because a recorder makes its file before it
-   locks it. */
-static inline int hound_follow_is_recorded(hound_follow *follow) {
+/* Whether a program that locks the file records, appends to or repairs it: 1 or 0, or an error where the system doesn't
+   say so, or the file isn't the recording that it was. Where another file is at the path, and nothing was given of this
+   one, that one is followed from now on, because a recorder that fails removes its file; else that is an error, too,
+   once nobody records this one. For a moment the file is locked for readers. So ask only where nothing new is counted,
+   at most once a second, and not in the first second while no header is there, because a recorder makes its file before
+   it locks it. */
+static inline int32_t hound_follow_is_recorded(hound_follow *follow) {
     int is_recorded, other = -1;
     if (hound_file_is_at(follow->file.descriptor, follow->path) == 0)
         other = hound_file_open_at(follow->path, O_RDONLY);
@@ -147,8 +147,8 @@ static inline int hound_follow_is_recorded(hound_follow *follow) {
     is_recorded = hound_file_is_locked(follow->file.descriptor);
     follow->file.fault = is_recorded < 0 ? errno : 0;
     if ((is_recorded == 0 && other >= 0) || (follow->given > 0 && !hound_follow_is_same(follow)))
-        return follow->file.fault = HOUND_FOLLOW_REPLACED, -1;
-    return is_recorded;
+        follow->file.fault = HOUND_FOLLOW_REPLACED;
+    return follow->file.fault ? HOUND_NOT_PERFORMED : is_recorded;
 }
 
 /* How a file was left that nobody records: HOUND_CUT_OFF where the recorder was killed. Then a repair adds `frames`
