@@ -263,9 +263,9 @@ static inline int hound_file_lock(int descriptor) {
     }
     return 0;
 }
-/* Whether another program has locked a file: 1 or 0, or -1 and errno. */
+/* Whether another program has locked a file. Where the system has no locks for it, none has. */
 static inline int hound_file_is_locked(int descriptor) {
-    if (hound_file_lock_once(descriptor, 1) < 0) return errno == EWOULDBLOCK ? 1 : -1;
+    if (hound_file_lock_once(descriptor, 1) < 0) return errno == EWOULDBLOCK;
     hound_file_unlock(descriptor);
     return 0;
 }

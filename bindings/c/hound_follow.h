@@ -128,12 +128,11 @@ static inline int64_t hound_follow_read(hound_follow *follow, uint8_t *out, size
     return (int64_t)count;
 }
 
-/* Whether a program that locks the file records, appends to or repairs it: 1 or 0, or an error where the system doesn't
-   say so, or the file isn't the recording that it was. Where another file is at the path, and nothing was given of this
-   one, that one is followed from now on, because a recorder that fails removes its file; else that is an error, too,
-   once nobody records this one. For a moment the file is locked for readers. So ask only where nothing new is counted,
-   at most once a second, and not in the first second while no header is there, because a recorder makes its file before
-   it locks it. */
+/* Whether a program that locks the file records, appends to or repairs it: 1 or 0, or an error where the file isn't the
+   recording that it was. Where another file is at the path, and nothing was given of this one, that one is followed
+   from now on, because a recorder that fails removes its file; else that is an error, too, once nobody records this
+   one. For a moment the file is locked for readers. So ask only where nothing new is counted, at most once a second, and
+   not in the first second while no header is there, because a recorder makes its file before it locks it. */
 static inline int32_t hound_follow_is_recorded(hound_follow *follow) {
     int is_recorded, other = -1;
     if (hound_file_is_at(follow->file.descriptor, follow->path) == 0)
@@ -144,11 +143,10 @@ static inline int32_t hound_follow_is_recorded(hound_follow *follow) {
         return 1;
     }
     if (other >= 0) hound_file_close_at(other);
-    is_recorded = hound_file_is_locked(follow->file.descriptor);
-    follow->file.fault = is_recorded < 0 ? errno : 0;
-    if ((is_recorded == 0 && other >= 0) || (follow->given > 0 && !hound_follow_is_same(follow)))
-        follow->file.fault = HOUND_FOLLOW_REPLACED;
-    return follow->file.fault ? HOUND_NOT_PERFORMED : is_recorded;
+    is_recorded = hound_file_is_locked(follow->file.descriptor), follow->file.fault = 0;
+    if ((!is_recorded && other >= 0) || (follow->given > 0 && !hound_follow_is_same(follow)))
+        return follow->file.fault = HOUND_FOLLOW_REPLACED, HOUND_NOT_PERFORMED;
+    return is_recorded;
 }
 
 /* How a file was left that nobody records: HOUND_CUT_OFF where the recorder was killed. Then a repair adds `frames`
