@@ -242,10 +242,15 @@ four_samples() { printf \
     'RIFF\54\0\0\0WAVEfmt \20\0\0\0\1\0\2\0\200\273\0\0\0\356\2\0\4\0\20\0data\10\0\0\0\2\0\375\377\5\0\371\377' > \
     "$work/four.wav"; }
 four_samples
+# What the program that meters a take prints of four samples, of which -7 is the loudest: 20 log10(7 / 2^23) is -121.6.
+metered="-121.6 dB
+at most 0.000; the recorder left 0 frames uncounted"
 page_of_python() {
     page python > "$work/page.py" && (cd "$work" && "$python" page.py) || return 1
     page python docs/BINDINGS.md "### Chunks before the sound" > "$work/bext.py" \
         && (cd "$work" && "$python" bext.py && tail -c +69 take.wav | grep -aq '^.*Scene 12') || return 1
+    page python docs/BINDINGS.md "## Follow a recording" > "$work/meter.py" \
+        && [ "$(cd "$work" && "$python" meter.py)" = "$metered" ] || return 1
     page python README.md > "$work/readme.py" && rm -f "$work/take.wav" \
         && (cd "$work" && [ "$("$python" readme.py)" = "array('h', [2, -3, 5, -7])" ]) \
         && cmp "$work/take.wav" "$work/four.wav"

@@ -89,7 +89,7 @@ int main(int argc, char **argv) {
         if (!strcmp(argv[i], "--parts")) is_in_parts = 1;
         else if (!strcmp(argv[i], "--idle")) idle = time_of(argv[i], argv[i + 1], SECOND), i++;
         else if (!strcmp(argv[i], "--timeout")) timeout = time_of(argv[i], argv[i + 1], SECOND), i++;
-        else if (!strcmp(argv[i], "--poll")) interval = time_of(argv[i], argv[i + 1], 1), i++;
+        else if (!strcmp(argv[i], "--poll")) interval = time_of(argv[i], argv[i + 1], 1), interval += !interval, i++;
         else return fail("usage", usage);
     }
     if (argc < 2) return fail("usage", usage);

@@ -41,7 +41,7 @@ typedef struct {
     uint8_t tail[HOUND_FOLLOW_TAIL];
 } hound_follow;
 
-/* A sentence for what a call returned, without its full stop, in this room of HOUND_FILE_SENTENCE bytes or none. */
+/* A sentence for what a call returned, without its full stop, in this room of HOUND_FILE_SENTENCE bytes. */
 static inline const char *hound_follow_reason(const hound_follow *follow, int32_t code, char *room) {
     if (follow->file.fault == HOUND_FOLLOW_REPLACED) return "the file was replaced, emptied or cut off meanwhile";
     return hound_file_reason(&follow->file, code, room);
@@ -131,8 +131,8 @@ static inline int64_t hound_follow_read(hound_follow *follow, uint8_t *out, size
 /* Whether a program that locks the file records, appends to or repairs it: 1 or 0, or an error where the file isn't the
    recording that it was. Where another file is at the path, and nothing was given of this one, that one is followed
    from now on, because a recorder that fails removes its file; else that is an error, too, once nobody records this
-   one. For a moment the file is locked for readers. So ask only where nothing new is counted, at most once a second, and
-   not in the first second while no header is there, because a recorder makes its file before it locks it. */
+   one. For a moment the file is locked for readers. So ask only where nothing new is counted, at most once a second,
+   and not in the first second while no header is there, because a recorder makes its file before it locks it. */
 static inline int32_t hound_follow_is_recorded(hound_follow *follow) {
     int is_recorded, other = -1;
     if (hound_file_is_at(follow->file.descriptor, follow->path) == 0)
