@@ -170,7 +170,7 @@ class Run:
     def __init__(self, folder, some, recorder, how, follow):
         self.path = os.path.join(folder, "take.wav")
         self.some, self.recorder, self.how, self.sent = some, recorder, how, 0
-        idle = 0 if recorder.is_locked(how) else 1.5
+        idle = 0 if recorder.is_locked(how) else 3
         words, pipes = follow(self.path, idle, "parts" in how), {"stdout": subprocess.PIPE, "stderr": subprocess.PIPE}
         self.follower = subprocess.Popen(words, **pipes)
         self.given = []

@@ -373,14 +373,15 @@ class Iterations(Followed):
             writer.flush()
             with self.assertRaisesRegex(TimeoutError, "nothing new is counted"):
                 list(hound.follow(self.path, timeout=2.3, poll=0.001))
-        self.assertEqual(len(asked), 3)
+        self.assertIn(len(asked), (2, 3))
+        self.assertTrue(all(later - sooner > 0.99 for sooner, later in zip(asked, asked[1:])), asked)
 
     def test_a_file_that_has_no_header_yet(self):
         """Its recorder may not have locked it yet: so it is asked about after a second."""
         self.leave(b"RIFF")
 
         def record():
-            time.sleep(0.3)
+            time.sleep(0.1)
             hound.write(self.path + "2", SAMPLES, 8000, 2)
             os.replace(self.path + "2", self.path)
 
@@ -406,11 +407,11 @@ class Iterations(Followed):
         def record():
             for counted in range(8, 21, 4):
                 self.leave(stereo(SAMPLES.tobytes()[:counted]))
-                time.sleep(0.2)
+                time.sleep(0.1)
 
         thread = threading.Thread(target=record)
         thread.start()
-        got = [list(block) for block in hound.follow(self.path, idle=0.6)]
+        got = [list(block) for block in hound.follow(self.path, idle=2)]
         thread.join()
         self.assertEqual(sum(got, []), SAMPLES.tolist())
         begun = time.monotonic()
