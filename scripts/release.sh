@@ -148,7 +148,7 @@ c_installed() { # NAME
     "$cc" tone.c $(PKG_CONFIG_PATH=$work/$1/prefix/lib/pkgconfig pkg-config --cflags --libs hound) -o tone
     LD_LIBRARY_PATH=$work/$1/prefix/lib ./tone
 }
-# The lines of the page and of the three programs' comments.
+# The lines of the page and of the programs' comments.
 c_by_a_line() {
     local program
     unpacked c_by_a_line
@@ -157,12 +157,13 @@ c_by_a_line() {
     "$cc" -O3 -c bindings/c/hound_c.c
     "$cc" -Ibindings/c tone.c hound_c.o -o tone
     ./tone
-    for program in cat record repair; do
+    for program in cat follow record repair; do
         "$cc" -Ibindings/c "bindings/c/$program.c" "bindings/lib/$(uname -m)-linux/libhound_c.a" -o "$program"
     done
     head -c 4000 /dev/zero | ./record take.wav 48000 2 16 500
     ./repair take.wav
     ./cat < take.wav | cmp - <(head -c 4000 /dev/zero)
+    ./follow take.wav | cmp - <(head -c 4000 /dev/zero)
 }
 c_by_cmake() { # NAME HOW
     unpacked "$1"

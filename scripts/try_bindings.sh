@@ -91,7 +91,7 @@ wrong_disks() {
 wrong_libraries() {
     local call wrap=()
     for call in info version kind beginning walk_next find_damage repair repair_to_end size header sizes \
-        recorder_{resume,write,next} repairer_next {to,from,dither}_f{32,64} f{32_to_f64,64_to_f32} \
+        recorder_{resume,write,next} repairer_next follower_next {to,from,dither}_f{32,64} f{32_to_f64,64_to_f32} \
         {value,container}_{8,16,24,32} {write,append,encode}_{i16,i32,f32}; do wrap+=("-Wl,--wrap=hound_$call"); done
     "$cc" $strict "${wrap[@]}" bindings/tests/calls.c bindings/tests/wrong.c "$library" -o "$work/wrong" \
         && "$work/wrong" || return 1
@@ -119,7 +119,7 @@ uninitialized() {
 header() {
     local words
     echo '#include "hound.h"' > "$work/header.c"
-    "$cc" $strict -std=c99 -fsyntax-only "$work/header.c" bindings/c/repair.c \
+    "$cc" $strict -std=c99 -fsyntax-only "$work/header.c" bindings/c/repair.c bindings/c/follow.c \
         && "$cc" $strict -std=c11 -fsyntax-only "$work/header.c" || return 1
     printf '#include <stdio.h>\n#include "hound_file.h"\n' > "$work/late.c" \
         # after a header of the system that has chosen what to declare
@@ -138,7 +138,7 @@ is_i386() {
 on_i386() { "$cc" -m32 $strict -std=c99 -fsyntax-only "$work/header.c" \
     && "$cc" -m32 $strict -std=c11 -fsyntax-only "$work/header.c"; }
 header_of_cpp() {
-    printf '#include "hound_file.h"\nint main() { return hound_error_text(0) == 0; }\n' > "$work/header.cpp"
+    printf '#include "hound_follow.h"\nint main() { return hound_error_text(0) == 0; }\n' > "$work/header.cpp"
     c++ $strict -std=c++98 -Wno-long-long -fsyntax-only "$work/header.cpp" \
         && c++ $strict -std=c++17 "$work/header.cpp" -o "$work/header"
 }
@@ -159,7 +159,8 @@ installed() { # PREFIX
         && ln -s libhound_c.so.0 "$1/lib/libhound_c.so" && cp -a "$1" "$1.copy" && touch "$1.copy/lib/other" || return 1
     ! command -v dash > /dev/null \
         || { ! dash bindings/c/install.sh "$1" 2> "$1.said" && grep -q "needs bash" "$1.said"; } || return 1
-    cmp bindings/c/hound_file.h "$1/include/hound_file.h" && bindings/c/install.sh --help | grep -q uninstall \
+    cmp bindings/c/hound_file.h "$1/include/hound_file.h" && cmp bindings/c/hound_follow.h "$1/include/hound_follow.h" \
+        && bindings/c/install.sh --help | grep -q uninstall \
         && bindings/c/install.sh --uninstall "$1.copy" && [ "$(cd "$1.copy" && find . ! -type d)" = ./lib/other ]
 }
 no_library() {
@@ -241,10 +242,15 @@ four_samples() { printf \
     'RIFF\54\0\0\0WAVEfmt \20\0\0\0\1\0\2\0\200\273\0\0\0\356\2\0\4\0\20\0data\10\0\0\0\2\0\375\377\5\0\371\377' > \
     "$work/four.wav"; }
 four_samples
+# What the program that meters a take prints of four samples, of which -7 is the loudest: 20 log10(7 / 2^23) is -121.6.
+metered="-121.6 dB
+at most 0.000; the recorder left 0 frames uncounted"
 page_of_python() {
     page python > "$work/page.py" && (cd "$work" && "$python" page.py) || return 1
     page python docs/BINDINGS.md "### Chunks before the sound" > "$work/bext.py" \
         && (cd "$work" && "$python" bext.py && tail -c +69 take.wav | grep -aq '^.*Scene 12') || return 1
+    page python docs/BINDINGS.md "## Follow a recording" > "$work/meter.py" \
+        && [ "$(cd "$work" && "$python" meter.py)" = "$metered" ] || return 1
     page python README.md > "$work/readme.py" && rm -f "$work/take.wav" \
         && (cd "$work" && [ "$("$python" readme.py)" = "array('h', [2, -3, 5, -7])" ]) \
         && cmp "$work/take.wav" "$work/four.wav"
@@ -270,7 +276,8 @@ python_types() { cd bindings/python \
 python_systems() { "$python" bindings/python/tests/test_windows.py && "$python" bindings/python/tests/test_backend.py; }
 python_faults() { "$python" bindings/tests/python_faults.py 20 short; }
 parts() { "$python" bindings/tests/parts.py 3 short; }
-examples() { local name; for name in cat record repair; do "$cc" $strict "bindings/c/$name.c" "$library" -o \
+followed() { "$python" bindings/tests/follow.py 26 1000; }
+examples() { local name; for name in cat follow record repair; do "$cc" $strict "bindings/c/$name.c" "$library" -o \
     "$work/$name" || return 1; done; }
 rows() { "$python" bindings/tests/rows.py "$work/cat" "$work/record"; }
 cargo_tests() { cargo test -q --offline --manifest-path bindings/hound/Cargo.toml --target-dir "$work/target"; }
@@ -468,7 +475,7 @@ if has "$cc" "the users in C"; then
     has_flags && check "on x86-64 before v2 the library is compiled from hound_c.c" old_processor
     has cmake "the library in CMake" \
         && check "CMake finds the libraries that it and bindings/c/install.sh installed, and builds the one of a clone" by_cmake
-    check "the examples cat.c, record.c and repair.c" examples
+    check "the examples cat.c, follow.c, record.c and repair.c" examples
 fi
 if has c++ "the headers and hound_c.c in C++"; then
     check "the headers are C++98 and C++17" header_of_cpp
@@ -483,7 +490,7 @@ if has python3 "the Python package" && has "$cc" "the Python package"; then
     check "where HOUND_C_LIB has no library, a line says so" no_library
     if python3 -c 'import ensurepip, venv' 2> /dev/null; then
         check "pip installs the Python package from a clone, here without a C compiler" python_installed
-        check "the tests of the Python package" python_tests files streams resuming floats command
+        check "the tests of the Python package" python_tests files streams resuming following floats command
         check "pip installs the command hound-wav, and its page for man" command_installed
         check "those of files and floats over the library that is compiled from hound_c.c" python_by_source
         has sox "guesses of lost headers" && is_node_20 \
@@ -492,6 +499,7 @@ if has python3 "the Python package" && has "$cc" "the Python package"; then
         has strace "killed Python programs, and failing calls of theirs" \
             && check "killed Python programs, and failing calls of theirs" python_faults
         check "killed recordings in parts, by hound-wav, Python, C, Node and Cargo" parts
+        check "killed recordings that are followed meanwhile, by C, Python and hound-wav, and wrong followers" followed
         check "files of hound_rows, cut files and each code, beside the model, through cat.c and by record.c" rows
         check "the Python program of docs/BINDINGS.md" page_of_python
     else

@@ -124,8 +124,8 @@ static inline int hound_file_check_new(const char *path) {
 /* Nobody renames a file that is open. */
 static inline int hound_file_is_at(int descriptor, const char *path) { return (void)descriptor, (void)path, 1; }
 /* Locks one byte that no file has, since others can't read what is locked. */
-static inline int hound_file_lock(int descriptor) {
-    DWORD how = LOCKFILE_EXCLUSIVE_LOCK | LOCKFILE_FAIL_IMMEDIATELY;
+static inline int hound_file_lock_once(int descriptor, int is_shared) {
+    DWORD how = LOCKFILE_FAIL_IMMEDIATELY | (is_shared ? 0 : LOCKFILE_EXCLUSIVE_LOCK);
     OVERLAPPED place;
     memset(&place, 0, sizeof place);
     place.OffsetHigh = 1u << 30;
@@ -133,6 +133,14 @@ static inline int hound_file_lock(int descriptor) {
     errno = GetLastError() == ERROR_LOCK_VIOLATION ? EWOULDBLOCK : ENOLCK;
     return -1;
 }
+static inline void hound_file_unlock(int descriptor) {
+    OVERLAPPED place;
+    memset(&place, 0, sizeof place);
+    place.OffsetHigh = 1u << 30;
+    UnlockFileEx((HANDLE)_get_osfhandle(descriptor), 0, 1, 0, &place);
+}
+static inline void hound_file_pause(int milliseconds) { Sleep((DWORD)milliseconds); }
+static inline int64_t hound_file_milliseconds(void) { return (int64_t)GetTickCount64(); }
 /* Standard input or output has bytes, and not lines. */
 static inline void hound_file_set_binary(int descriptor) { _setmode(descriptor, _O_BINARY); }
 static inline int64_t hound_file_get_next(int descriptor, void *out, size_t count) {
@@ -142,6 +150,7 @@ static inline void hound_file_wait(int descriptor) { (void)descriptor; }
 #else
 #include <poll.h>
 #include <sys/file.h>
+#include <time.h>
 #include <unistd.h>
 
 typedef char hound_file_needs_FILE_OFFSET_BITS_64[sizeof(off_t) == 8 ? 1 : -1];
@@ -221,7 +230,17 @@ static inline int hound_file_is_at(int descriptor, const char *path) {
     if (fstat(descriptor, &held) < 0 || stat(path, &there) < 0) return errno == ENOENT ? 0 : -1;
     return held.st_dev == there.st_dev && held.st_ino == there.st_ino;
 }
-static inline int hound_file_lock(int descriptor) { return flock(descriptor, LOCK_EX | LOCK_NB); }
+static inline int hound_file_lock_once(int descriptor, int is_shared) {
+    return flock(descriptor, (is_shared ? LOCK_SH : LOCK_EX) | LOCK_NB);
+}
+static inline void hound_file_unlock(int descriptor) { flock(descriptor, LOCK_UN); }
+static inline void hound_file_pause(int milliseconds) { poll(NULL, 0, milliseconds); }
+/* On a clock that nobody sets. */
+static inline int64_t hound_file_milliseconds(void) {
+    struct timespec time;
+    clock_gettime(CLOCK_MONOTONIC, &time);
+    return (int64_t)time.tv_sec * 1000 + time.tv_nsec / 1000000;
+}
 static inline void hound_file_set_binary(int descriptor) { (void)descriptor; }
 static inline int64_t hound_file_get_next(int descriptor, void *out, size_t count) {
     return read(descriptor, out, count);
@@ -232,6 +251,24 @@ static inline void hound_file_wait(int descriptor) {
     poll(&input, 1, -1);
 }
 #endif
+
+/* Locks a file for this program alone: 0, or -1 and errno. A program that follows a recording locks it for a moment, to
+   see whether it is still recorded. So this is tried ten times, 2 ms apart. */
+static inline int hound_file_lock(int descriptor) {
+    int attempts_left = 10, why;
+    while (hound_file_lock_once(descriptor, 0) < 0) {
+        why = errno;
+        if (why != EWOULDBLOCK || --attempts_left == 0) return errno = why, -1;
+        hound_file_pause(2);
+    }
+    return 0;
+}
+/* Whether another program has locked a file. Where the system has no locks for it, none has. */
+static inline int hound_file_is_locked(int descriptor) {
+    if (hound_file_lock_once(descriptor, 1) < 0) return errno == EWOULDBLOCK;
+    hound_file_unlock(descriptor);
+    return 0;
+}
 
 /* A file, and its recorder. */
 typedef struct {

@@ -24,8 +24,8 @@ root=${DESTDIR:-}$1
 shared=libhound_c.so
 major=$(sed -n 's/^#define HOUND_VERSION_MAJOR //p' "$here/hound.h")
 if [ -n "$is_removed" ]; then
-    rm -f "$root"/include/hound{,_file}.h "$root"/lib/libhound_c.a "$root/lib/$shared" "$root/lib/$shared.$major" \
-        "$root/lib/pkgconfig/hound.pc"
+    rm -f "$root"/include/hound{,_file,_follow}.h "$root"/lib/libhound_c.a "$root/lib/$shared" \
+        "$root/lib/$shared.$major" "$root/lib/pkgconfig/hound.pc"
     rm -f "$root"/lib/cmake/hound/hound-config{,-version}.cmake
     echo "removed from: $root"
     exit 0
@@ -60,7 +60,7 @@ version=$(sed -n 's/^#define HOUND_VERSION "\(.*\)"$/\1/p' "$here/hound.h")
 for file in hound.pc hound-config-version.cmake; do sed "s/@VERSION@/$version/" "$here/$file.in" > "$work/$file"; done
 
 mkdir -p "$root/include" "$root/lib/pkgconfig" "$root/lib/cmake/hound"
-install -m 644 "$here/hound.h" "$here/hound_file.h" "$root/include"
+install -m 644 "$here"/hound{,_file,_follow}.h "$root/include"
 install -m 644 "$from/libhound_c.a" "$root/lib"
 install -m 644 "$work/hound.pc" "$root/lib/pkgconfig"
 install -m 644 "$here/hound-config.cmake" "$work/hound-config-version.cmake" "$root/lib/cmake/hound"

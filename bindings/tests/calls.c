@@ -366,6 +366,163 @@ static void streams(void) {
     }
 }
 
+/* A look of a follower over a file in memory: what it returns, after how many reads. */
+static int32_t looked(hound_follower *follower, const uint8_t *file, size_t length, int *reads) {
+    int32_t code;
+    for (*reads = 0; (code = hound_follower_next(follower)) == 1; ++*reads)
+        read_part(file, length, &follower->effect);
+    must(follower->effect.kind == HOUND_NOTHING, "nothing is requested after a look");
+    return code;
+}
+
+/* The same, which has to end like this after so many reads, with so many bytes counted. */
+static void looks(hound_follower *follower, const uint8_t *file, size_t length, int32_t code, int reads,
+                  uint32_t counted, const char *what) {
+    int done;
+    must(looked(follower, file, length, &done) == code && done == reads && follower->counted == counted, what);
+}
+
+/* Whether this is the read of so many bytes at a place. */
+static int is_read(const hound_effect *effect, uint64_t place, uint32_t length) {
+    return effect->kind == HOUND_READ && effect->report == HOUND_PENDING && effect->place == place
+           && effect->length == length;
+}
+
+/* A recording under way, of frames of two bytes after a chunk, whose header comes byte by byte. */
+static void followers(void) {
+    uint8_t file[sizeof listed + 8] = {0};
+    int reads;
+    hound_follower follower = HOUND_FOLLOWER_BEGIN;
+    memcpy(file, listed, sizeof listed);
+    for (size_t length = 0; length < 56; length++)
+        must(looked(&follower, file, length, &reads) == HOUND_NOTHING_NEW && follower.data_start == 0,
+             "a header that isn't whole yet");
+    looks(&follower, file, 56, 0, PARTS, 0, "a header that is whole");
+    must(follower.data_start == 56 && follower.spec.sample_rate == 44100 && follower.spec.channels == 1
+             && follower.spec.bits_per_sample == 16 && follower.spec.bytes_per_sample == 2
+             && follower.spec.sample_format == HOUND_INT,
+         "what the header says");
+    looks(&follower, file, sizeof file, 0, 5, 2, "the first frame");
+    looks(&follower, file, sizeof file, HOUND_NOTHING_NEW, 1, 2, "nothing new");
+    put32(file + 52, 6);
+    looks(&follower, file, sizeof file, 0, 5, 6, "a length that grows");
+    put32(file + 52, 2);
+    looks(&follower, file, sizeof file, HOUND_NOTHING_NEW, 5, 6, "a length that counts fewer");
+    looks(&follower, file, sizeof file, HOUND_NOTHING_NEW, 1, 6, "the same one");
+    put32(file + 52, 9);
+    looks(&follower, file, sizeof file, 0, 5, 8, "whole frames alone");
+    put32(file + 52, 8);
+    looks(&follower, file, sizeof file, HOUND_NOTHING_NEW, 5, 8, "the same frames");
+    put32(file + 52, UINT32_MAX);
+    looks(&follower, file, sizeof file, HOUND_TOO_LONG, 5, 8, "the length of a stream");
+    put32(file + 52, UINT32_MAX - 48); /* The RIFF size, of 48 bytes more and a pad byte, has no room. */
+    looks(&follower, file, sizeof file, HOUND_TOO_LONG, 5, 8, "a length of no file");
+    put32(file + 52, UINT32_MAX - 49);
+    looks(&follower, file, sizeof file, 0, 5, UINT32_MAX - 49, "the greatest length");
+    looks(&follower, file, 55, HOUND_TRUNCATED, 1, UINT32_MAX - 49, "a file that was cut off");
+    looks(&follower, file, 0, HOUND_TRUNCATED, 1, UINT32_MAX - 49, "a file that was emptied");
+    looks(&follower, file, sizeof file, HOUND_NOTHING_NEW, 1, UINT32_MAX - 49, "and is there again");
+}
+
+/* Each read is requested again where its report is left out; one that fails, or is short, ends the look. Bytes past
+   what was requested mean nothing. The four bytes of the length come from the last to the first. */
+static void reads_of_followers(void) {
+    static const struct { uint64_t place; uint32_t length; } of_length[] = {
+        {52, 4}, {55, 1}, {54, 1}, {53, 1}, {52, 1}};
+    uint8_t file[sizeof listed];
+    hound_follower follower = HOUND_FOLLOWER_BEGIN;
+    memcpy(file, listed, sizeof file);
+    for (int look = 0; look < 2; look++)
+        for (int part = 0; part < (look == 0 ? PARTS : 5); part++) {
+            for (int way = 0; way < 4; way++) {
+                for (int i = 0; i <= part; i++) {
+                    uint64_t place = look == 0 ? parts[i].place : of_length[i].place;
+                    uint32_t length = look == 0 ? parts[i].length : of_length[i].length;
+                    must(hound_follower_next(&follower) == 1 && is_read(&follower.effect, place, length)
+                             && hound_follower_next(&follower) == 1 && is_read(&follower.effect, place, length),
+                         "a read of a look, and the same again");
+                    read_part(file, sizeof file, &follower.effect);
+                    if (way == 0) follower.effect.length = HOUND_EFFECT_BYTES + 9;
+                }
+                if (way == 1) follower.effect.report = HOUND_FAILED;
+                if (way == 2) follower.effect.length -= 1;
+                int32_t code = way == 1 ? HOUND_NOT_PERFORMED : look == 0 ? HOUND_NOTHING_NEW : HOUND_TRUNCATED;
+                if (way == 1 || way == 2) must(hound_follower_next(&follower) == code, "a read that fails or is short");
+                if (way == 0 || way == 3) follower.effect.report = HOUND_FAILED, hound_follower_next(&follower);
+                must(follower.counted == 0 && (follower.data_start == 0) == (look == 0), "what a look leaves");
+            }
+            if (look == 0 && part + 1 == PARTS) looks(&follower, file, sizeof file, 0, PARTS, 0, "a whole header");
+        }
+    looks(&follower, file, sizeof file, 0, 5, 2, "a look after all of these");
+}
+
+/* Headers that aren't read, after each of which the next look begins at the front. */
+static void headers_of_followers(void) {
+    static const struct { size_t place; uint8_t value; int32_t code; } wrong[] = {
+        {0, 'L', HOUND_NO_RIFF_TAG}, {8, 'w', HOUND_NO_WAVE_TAG}, {24, 'F', HOUND_NO_FMT_CHUNK},
+        {34, 0, HOUND_ZERO_CHANNELS}, {32, 7, HOUND_UNSUPPORTED}};
+    uint8_t file[sizeof listed];
+    hound_follower follower = HOUND_FOLLOWER_BEGIN;
+    int reads;
+    for (size_t i = 0; i < sizeof wrong / sizeof *wrong; i++) {
+        memcpy(file, listed, sizeof file);
+        file[wrong[i].place] = wrong[i].value;
+        must(looked(&follower, file, sizeof file, &reads) == wrong[i].code && follower.data_start == 0,
+             "a header that isn't read");
+    }
+    looks(&follower, listed, sizeof listed, 0, PARTS, 0, "a header that is read");
+}
+
+/* While a recorder stores a length, from its first byte on, a look counts no more than it, wherever the reads come. */
+static void torn_lengths(void) {
+    static const uint32_t lengths[][2] = {{0, 0x1fe}, {0xfe, 0x100}, {0xffe, 0x1000}, {0xfffe, 0x10000},
+                                          {0x107f07e, 0x107f170}, {0x10fffe, 0x200000}, {0xfffffe, 0x1000000}};
+    for (size_t i = 0; i < sizeof lengths / sizeof *lengths; i++)
+        for (int moments = 0; moments < 625; moments++) {
+            uint8_t file[sizeof listed];
+            hound_follower follower = HOUND_FOLLOWER_BEGIN;
+            int reads, stored = 0, number = 0, left = moments;
+            memcpy(file, listed, sizeof file);
+            looks(&follower, file, sizeof file, 0, PARTS, 0, "the header");
+            put32(file + 52, lengths[i][0]);
+            looked(&follower, file, sizeof file, &reads);
+            must(follower.counted == lengths[i][0], "a length");
+            for (; hound_follower_next(&follower) == 1; number++) {
+                for (int more = number < 4 ? left % 5 : 4; more > 0 && stored < 4; more--, stored++)
+                    file[52 + stored] = (uint8_t)(lengths[i][1] >> 8 * stored);
+                left /= 5;
+                read_part(file, sizeof file, &follower.effect);
+            }
+            must(follower.counted <= lengths[i][1], "a length that is torn counts too much");
+            looked(&follower, file, sizeof file, &reads);
+            while (stored < 4) file[52 + stored] = (uint8_t)(lengths[i][1] >> 8 * stored), stored++;
+            looked(&follower, file, sizeof file, &reads);
+            must(follower.counted == lengths[i][1], "the length once it is stored");
+        }
+}
+
+/* Whatever a follower's bytes are, it requests reads that have room, and counts whole frames. */
+static void followers_of_any_bytes(void) {
+    uint64_t state = 1;
+    for (int i = 0; i < 100000; i++) {
+        hound_follower follower;
+        uint8_t *bytes = (uint8_t *)&follower;
+        for (size_t j = 0; j < sizeof follower; j++)
+            state = state * 6364136223846793005u + 1442695040888963407u, bytes[j] = (uint8_t)(state >> 56);
+        follower.effect.kind = (uint16_t)(i % 3), follower.effect.report = (uint16_t)(i / 3 % 4);
+        if (i % 2) follower.part %= 10;
+        if (i % 4 == 1) follower.spec = spec_of(i % KINDS, 1 + (uint16_t)(i % 7)), follower.data_start %= 1u << 16;
+        for (int step = 0; step < 8; step++) {
+            int32_t code = hound_follower_next(&follower);
+            must(code <= HOUND_NOTHING_NEW && code >= HOUND_NOT_PERFORMED, "what a follower returns");
+            must(code != 1 || (follower.effect.kind == HOUND_READ && follower.effect.length <= HOUND_EFFECT_BYTES
+                               && follower.effect.report == HOUND_PENDING),
+                 "a read that has room");
+            follower.effect.report = HOUND_DONE;
+        }
+    }
+}
+
 static void eight_bits(void) {
     hound_spec spec = {8000, 1, 8, 0, HOUND_INT}, wide = {8000, 1, 16, 0, HOUND_INT},
                real = {8000, 1, 32, 0, HOUND_FLOAT};
@@ -1209,6 +1366,11 @@ int main(void) {
     errors_of_files();
     walks();
     streams();
+    followers();
+    reads_of_followers();
+    headers_of_followers();
+    torn_lengths();
+    followers_of_any_bytes();
     eight_bits();
     values();
     containers_of();

@@ -4,7 +4,7 @@ their status, and each file have to be the same, byte for byte. Then two of them
 whose file is repaired, how often a durable file is synced, a file of 3 GB, and other names. With --wrong their wrong
 versions for Windows have to be found.
 
-usage: programs.py HERE THERE [RUN..]     (folders with cat, record and repair; there with .exe; RUN runs those)
+usage: programs.py HERE THERE [RUN..]     (folders with these programs; there with .exe; RUN runs those)
        programs.py --wrong HERE SCRATCH RUN LIBRARY COMPILER..     (the compiler's words, to link that library)"""
 import os
 import random
@@ -14,7 +14,7 @@ import sys
 import tempfile
 
 C = os.path.join(os.path.dirname(os.path.dirname(os.path.abspath(__file__))), "c")
-NAMES = "cat", "record", "repair"
+NAMES = "cat", "follow", "record", "repair"
 # Bits, channels, and the frames between checkpoints.
 SHAPES = (8, 1, 7), (16, 2, 100), (24, 3, 50), (32, 1, 1000)
 LIST = b"LIST\4\0\0\0INFO"
@@ -143,6 +143,21 @@ def check_two(one):
     expect("a lock outlives its program", one.ran("repair", "take.wav")[0] == 0)
 
 
+def check_followed(one):
+    """A recording is followed from its first checkpoint on, until its recorder ends."""
+    os.remove(one.path)
+    recorder = one.recording()
+    follower = one.begun("follow", "take.wav")
+    first = follower.stdout.read(400)
+    expect("a follower ends before its recorder", follower.poll() is None)
+    recorder.communicate(timeout=20)
+    given = first + follower.stdout.read()
+    said = follower.communicate(timeout=20)[1]
+    expect(f"a follower gives other samples: {said!r}", (given, follower.returncode) == (DATA, 0))
+    said = b"follow: none.wav: No such file or directory\n"
+    expect("a file that isn't there is followed", one.ran("follow", "none.wav")[:3] == (1, b"", said))
+
+
 def syncs(one):
     """How often the system stores the file of a durable recording."""
     log = one.path + ".log"
@@ -211,6 +226,7 @@ def check(here, folder, scratch, run, ending=".exe"):
         with other.recording("first.wav") as first:
             count = check_same(one, other)
             check_two(other)
+            check_followed(other)
             check_synced(one, other)
             check_killed(one, other)
             check_long(other)
@@ -249,7 +265,7 @@ def main():
             check_wrong(words[1], words[2], words[3:4], words[4], words[5:])
         else:
             runs = check(words[0], words[1], None, words[2:])
-            tried = "two at one file, a kill, syncs, 3 GB, other names"
+            tried = "two at one file, a follower, a kill, syncs, 3 GB, other names"
             print(f"programs: {runs} runs of cat, record and repair are the same; {tried}")
     except Wrong as error:
         sys.exit(f"programs: {error}")

@@ -41,7 +41,7 @@ WRONG = {
         "give_up(file, path, 0, HOUND_NOT_PERFORMED)",
     ),
     "a file without a header stays": ("give_up(file, path, !is_emptied, code)", "give_up(file, path, 0, code)"),
-    "no lock": ("flock(descriptor, LOCK_EX | LOCK_NB)", "0"),
+    "no lock": ("flock(descriptor, (is_shared ? LOCK_SH : LOCK_EX) | LOCK_NB)", "0"),
     "a length of data lies across two sectors": (
         "filler = hound_filler((uint64_t)front + length, out + front - 8 + length, HOUND_FILLER_BYTES);",
         "filler = 0;",

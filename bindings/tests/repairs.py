@@ -92,7 +92,7 @@ WRONG = {
     "a pipe is waited for": ("flags & O_RDWR ? 0 : O_NONBLOCK", "0"),
     "an error ends with status 0": ('why), 1)); }', 'why), 0)); }'),
     "what isn't read isn't named": ("if (code < 0) hound_file_look(file);", ""),
-    "no lock": ("flock(descriptor, LOCK_EX | LOCK_NB)", "0"),
+    "no lock": ("flock(descriptor, (is_shared ? LOCK_SH : LOCK_EX) | LOCK_NB)", "0"),
 }
 if IN_CARGO:
     SYNC, WRITTEN, READ = "sync(disk)", "Ok(count) => return Ok(count.min(bytes.len())),", "self.0.read(bytes)"

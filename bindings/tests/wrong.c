@@ -249,6 +249,26 @@ REAL(int32_t, repairer_next, (hound_repairer *repairer, hound_repair_t *found)) 
     return code;
 }
 
+REAL(int32_t, follower_next, (hound_follower *follower)) {
+    hound_effect *effect = &follower->effect;
+    uint64_t length = follower->data_start - 4;
+    uint32_t before = follower->counted;
+    int is_byte = effect->kind == HOUND_READ && effect->length == 1 && follower->data_start > 0;
+    if (is_byte && has("a follower takes the first byte first")) effect->place = 2 * length + 3 - effect->place;
+    if (effect->report == HOUND_FAILED && has("a follower takes a failed read")) effect->report = HOUND_DONE;
+    if (effect->report == HOUND_PENDING && has("a follower takes a report that is lost for done"))
+        effect->report = HOUND_DONE;
+    int32_t code = __real_hound_follower_next(follower);
+    is_byte = code == 1 && effect->length == 1 && follower->data_start > 0;
+    if (is_byte && has("a follower takes the first byte first")) effect->place = 2 * length + 3 - effect->place;
+    if (code == HOUND_NOTHING_NEW && follower->last < before && has("a follower takes a length that counts fewer"))
+        follower->counted = follower->last;
+    if (code == 0 && has("a follower counts a part of a frame")) follower->counted = follower->last;
+    if (code == 0 && before == 0 && has("a follower counts nothing at first")) follower->counted = 0;
+    if (code == HOUND_TOO_LONG && has("a follower takes any length")) return follower->counted = UINT32_MAX, 0;
+    return code == HOUND_NOTHING_NEW && has("a follower says nothing of nothing new") ? 0 : code;
+}
+
 static int is_odd(const uint8_t *file, size_t length) {
     hound_info_t info;
     return __real_hound_info(file, length, &info) == 0 && info.samples * info.spec.bytes_per_sample % 2 == 1;

@@ -1,5 +1,5 @@
 //! Files that no other program records to, appends to or repairs.
-use std::{fs, io, path};
+use std::{fs, io, path, thread, time};
 
 /// Opens the file at a path, which no other program that locks it records to, appends to or repairs.
 pub(crate) fn open_locked(options: &fs::OpenOptions, filename: &path::Path) -> io::Result<fs::File> {
@@ -28,15 +28,21 @@ fn is_at(_: &fs::File, _: &path::Path) -> io::Result<bool> {
     Ok(true)
 }
 
-/// Locks an open file until it is closed, without waiting (own): where another program has locked it, or this one has
-/// opened and locked it before, the error is `WouldBlock`; on Windows also where it has locked the same `File`. A file
-/// system without locks is no error, and neither is another system than Unix and Windows.
+/// Locks an open file until it is closed, in ten attempts 2 ms apart (own): where another program has locked it, or
+/// this one has opened and locked it before, the error is `WouldBlock`; on Windows also where it has locked the same
+/// `File`. A file system without locks is no error, and neither is another system than Unix and Windows.
 pub fn lock(file: &fs::File) -> io::Result<()> {
-    if is_locked_by_another(file) {
-        let text = "another program records to, appends to or repairs this file";
-        return Err(io::Error::new(io::ErrorKind::WouldBlock, text));
+    // A program that follows a recording locks it for a moment, to see whether it is still recorded.
+    for attempts_left in (0..10).rev() {
+        if !is_locked_by_another(file) {
+            return Ok(());
+        }
+        if attempts_left > 0 {
+            thread::sleep(time::Duration::from_millis(2));
+        }
     }
-    Ok(())
+    let text = "another program records to, appends to or repairs this file";
+    Err(io::Error::new(io::ErrorKind::WouldBlock, text))
 }
 
 #[cfg(unix)]

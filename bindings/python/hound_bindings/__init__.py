@@ -12,6 +12,7 @@ A file that is recorded to, appended to, repaired or replaced is locked (`flock`
 replaced): what another program, or a Writer of this one, has locked is a BlockingIOError. Programs without such locks
 may not change a file during a call. Of what is `durable` Windows syncs files, but no folders.
 """
+from ._following import Follower, follow
 from ._library import Cause, HoundError, Info, Repair, State
 from ._library import __version__ as __version__
 from .files import append, info, read, read_into, read_with_info, to_bytes, write
@@ -21,9 +22,9 @@ from .resuming import resume
 from .streams import Reader, Writer, append_to, create, open
 
 __all__ = [
-    "Cause", "HoundError", "Info", "Reader", "Repair", "State", "Writer", "append", "append_to", "create",
-    "find_damage", "guess", "info", "open", "read", "read_into", "read_with_info", "repair", "resume", "to_bytes",
-    "write",
+    "Cause", "Follower", "HoundError", "Info", "Reader", "Repair", "State", "Writer", "append", "append_to", "create",
+    "find_damage", "follow", "guess", "info", "open", "read", "read_into", "read_with_info", "repair", "resume",
+    "to_bytes", "write",
 ]  # fmt: skip
 
 for _name in __all__:  # by which help, tracebacks and pickles name them

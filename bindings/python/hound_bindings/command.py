@@ -17,7 +17,7 @@ from typing import Any, Callable, Dict, Iterator, List, NamedTuple, Optional, Tu
 
 import hound_bindings as hound
 
-from . import conversion, disk, files, lost, parts, recording, repairs
+from . import conversion, disk, files, lost, monitoring, parts, recording, repairs
 from ._library import FIND_DAMAGE, FLOATS, HEADER_BYTES, INTEGERS, CRepair, described, named
 from .terminal import Bar, Wrong, complain, say, sentence_of
 
@@ -163,6 +163,9 @@ def _say_what_is_counted(name: str, chunks: Optional[lost.Chunks]) -> None:
 
 
 def _info(options: argparse.Namespace) -> int:
+    monitoring.check_options(options)
+    if options.follow:
+        return _each(options.files, lambda name: monitoring.show(name, options), _failure(options))
     shown: List[hound.Info] = []
 
     def show(name: str) -> bool:
@@ -343,7 +346,11 @@ def _is_whole(name: str, reader: hound.Reader) -> bool:
 
 
 def _cat(options: argparse.Namespace) -> int:
+    monitoring.check_options(options)
+
     def write(name: str) -> bool:
+        if options.follow:
+            return monitoring.write(name, options)
         with hound.open(_source(name), to_end=options.to_end) as reader:
             for block in _blocks(name, reader, options.type):
                 with named(sys.stdout):
@@ -566,7 +573,9 @@ def _parser() -> argparse.ArgumentParser:
     flag: Dict[str, Any] = {"action": "store_true"}
     add = command("info", _info, "say what files are, and whether they are damaged")
     add("files", nargs="+", metavar="FILE", help="or a folder, of whose .wav files all are meant; - is standard input")
-    add("--json", help="print a JSON object in a line for each file", **flag)
+    words = "print a JSON object in a line for each file, or with --follow for each second"
+    add("--json", help=words, **flag)
+    monitoring.add_options(add)
 
     words = "repair files whose recording was cut off, in place: copy what can't be replaced, or use --copy"
     add = command("repair", _repair, words)
@@ -598,6 +607,7 @@ def _parser() -> argparse.ArgumentParser:
     add("--type", choices=conversion.READ_TYPES, help="of the samples; floats have the full scale 1")
     stream = {"help": "read all that follows the header, as of a stream that doesn't know its length", **flag}
     add("--to-end", **stream)
+    monitoring.add_options(add)
 
     add = command("convert", _convert, "write the samples of a file to a new one, in another form")
     add("source", metavar="IN", help="- is standard input")

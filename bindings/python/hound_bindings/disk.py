@@ -8,6 +8,7 @@ import errno
 import io
 import os
 import stat
+import time
 from typing import Any, Iterable, Iterator, List, Optional, Union
 
 try:
@@ -23,10 +24,12 @@ from ._library import DONE, FAILED, READ, SHORTEN, SYNC, SYNC_FOLDER, WRITE, WRI
 
 __all__ = [
     "DONE", "Descriptor", "FAILED", "File", "Medium", "Memory", "READ", "SHORTEN", "SYNC", "Stream", "WRITE",
-    "WRITE_BLOCK", "check_object", "descriptor_of", "folder_of", "made", "opened", "perform", "piece_of", "place_of",
-    "put_here", "read_at", "read_into", "replace", "sync", "sync_folder", "sync_once",
+    "WRITE_BLOCK", "check_object", "descriptor_of", "folder_of", "is_at", "is_locked", "made", "opened", "perform",
+    "piece_of", "place_of", "put_here", "read_at", "read_into", "replace", "sync", "sync_folder", "sync_once",
 ]  # fmt: skip
 
+# How often a lock is tried, and how many seconds are between.
+_ATTEMPTS, _PAUSE = 10, 0.002
 _IS_LOCKED = "another program records to, appends to or repairs this file"
 # Without it Windows changes the bytes of lines' ends.
 _BINARY = getattr(os, "O_BINARY", 0)
@@ -42,15 +45,44 @@ class _Overlapped(ctypes.Structure):
     _fields_ = [("unused", ctypes.c_size_t * 2), ("place", ctypes.c_uint64), ("event", ctypes.c_void_p)]
 
 
-def _lock_on_windows(descriptor: int) -> None:
-    """Locks the byte of hound_file.h, which no file has, since others can't read what is locked."""
+def _on_windows(call: str, descriptor: int, *words: Any) -> bool:
+    """Locks or unlocks the byte of hound_file.h, which no file has, since others can't read what is locked: whether
+    that was done, or can't be."""
     libraries: Any = ctypes  # Only on Windows it has WinDLL.
-    lock = libraries.WinDLL("kernel32", use_last_error=True).LockFileEx
-    lock.argtypes = [ctypes.c_void_p, *[ctypes.c_uint32] * 4, ctypes.c_void_p]
-    exclusive_at_once, is_locked = 3, 33
-    handle, place = getattr(msvcrt, "get_osfhandle")(descriptor), _Overlapped(place=1 << 62)
-    if not lock(handle, exclusive_at_once, 0, 1, 0, ctypes.byref(place)) and libraries.get_last_error() == is_locked:
-        raise OSError(errno.EWOULDBLOCK, _IS_LOCKED)
+    function = getattr(libraries.WinDLL("kernel32", use_last_error=True), call)
+    function.argtypes = [ctypes.c_void_p, *[ctypes.c_uint32] * (3 + len(words)), ctypes.c_void_p]
+    is_locked, handle, place = 33, getattr(msvcrt, "get_osfhandle")(descriptor), _Overlapped(place=1 << 62)
+    return bool(function(handle, *words, 0, 1, 0, ctypes.byref(place))) or libraries.get_last_error() != is_locked
+
+
+def lock(descriptor: int, is_shared: bool = False) -> bool:
+    """Locks a file at once, for this program alone, or for those that look whether it is recorded: whether no other
+    one has locked it. Where the system has no locks for it, it isn't locked, and no other one has."""
+    try:
+        if fcntl:
+            fcntl.flock(descriptor, (fcntl.LOCK_SH if is_shared else fcntl.LOCK_EX) | fcntl.LOCK_NB)
+        elif msvcrt:
+            exclusive, at_once = 2, 1
+            return _on_windows("LockFileEx", descriptor, at_once if is_shared else exclusive | at_once)
+    except OSError as error:
+        return error.errno != errno.EWOULDBLOCK
+    return True
+
+
+def unlock(descriptor: int) -> None:
+    with contextlib.suppress(OSError):  # There was no lock.
+        if fcntl:
+            fcntl.flock(descriptor, fcntl.LOCK_UN)
+        elif msvcrt:
+            _on_windows("UnlockFileEx", descriptor)
+
+
+def is_locked(descriptor: int) -> bool:
+    """Whether another program has locked a file, or another `File` of this one: it is locked for a moment to see it."""
+    if not lock(descriptor, is_shared=True):
+        return True
+    unlock(descriptor)
+    return False
 
 
 def _pread(descriptor: int, count: int, place: int) -> bytes:
@@ -142,6 +174,15 @@ def perform(effect: Any, file: "Medium", durable: bool, block: Iterable[Any] = (
     else:
         raise NotImplementedError(f"the library requests an effect of kind {kind}: this package is older, so update it")
     effect.report = DONE
+
+
+def is_at(descriptor: int, path: Any) -> bool:
+    """Whether a file that is open is the one at a path. On Windows nobody renames it."""
+    if not fcntl:
+        return True
+    with contextlib.suppress(FileNotFoundError):
+        return os.path.samestat(os.fstat(descriptor), os.stat(path))
+    return False
 
 
 @contextlib.contextmanager
@@ -455,7 +496,7 @@ class File(Descriptor):
             self._file = io.open(path, "rb", buffering=0, opener=lambda path, _: os.open(path, flags | _BINARY, 0o666))
             try:
                 self._lock()
-                if is_last or not fcntl or self._is_at_path():
+                if is_last or is_at(self.descriptor, path):
                     return
             except BaseException:
                 self.close()
@@ -463,23 +504,17 @@ class File(Descriptor):
             self.close()
 
     def _lock(self) -> None:
-        try:
-            if fcntl:
-                fcntl.flock(self.descriptor, fcntl.LOCK_EX | fcntl.LOCK_NB)
-            elif msvcrt:
-                _lock_on_windows(self.descriptor)
-        except OSError as error:
-            if error.errno == errno.EWOULDBLOCK:
-                raise BlockingIOError(errno.EWOULDBLOCK, _IS_LOCKED, os.fspath(self.path)) from None
+        # A program that follows a recording locks it for a moment, to see whether it is still recorded.
+        for _ in range(_ATTEMPTS - 1):
+            if lock(self.descriptor):
+                return
+            time.sleep(_PAUSE)
+        if not lock(self.descriptor):
+            raise BlockingIOError(errno.EWOULDBLOCK, _IS_LOCKED, os.fspath(self.path))
 
     def sync_folder(self, durable: bool) -> None:
         if durable:
             sync(self.folder)
-
-    def _is_at_path(self) -> bool:
-        with contextlib.suppress(FileNotFoundError):
-            return os.path.samestat(os.fstat(self.descriptor), os.stat(self.path))
-        return False
 
     def close(self, is_unlocked: bool = True) -> None:
         """Closes it, and unlocks it, since a forked process may have the descriptor, too. What was interrupted in it is

@@ -14,7 +14,7 @@ import hound_bindings as hound
 
 from . import conversion, lost, parts, repairs
 from ._library import FIND_DAMAGE, described
-from .terminal import Line, Wrong, complain, note, sentence_of
+from .terminal import Line, Peaks, Wrong, clock, complain, note, sentence_of
 
 __all__ = ["EXAMPLES", "record"]
 
@@ -145,28 +145,16 @@ class _Input:
         return True
 
 
-def _clock(seconds: float) -> str:
-    return f"{int(seconds) // 3600}:{int(seconds) // 60 % 60:02}:{int(seconds) % 60:02}"
-
-
-def _decibels(peak: float) -> str:
-    return f"{20 * math.log10(peak):.1f}" if peak > 0 else "-inf"
-
-
 class _Meter(Line):
     """How long a recording is, how loud each channel was since it was shown last, and what its header counts."""
 
     def __init__(self, writer: hound.Writer) -> None:
         super().__init__(0)
-        self._writer, self._counted, info = writer, writer.tell(), writer.info
-        self._full, self._peaks = 1.0 if info.is_float else 2.0 ** (info.bits_per_sample - 1), [0.0] * info.channels
+        self._writer, self._counted, self._peaks = writer, writer.tell(), Peaks(writer.info)
 
     def hear(self, samples: "array.array[Any]") -> None:
-        channels = len(self._peaks)
-        if self.is_shown and samples:
-            parts = (samples[channel::channels] for channel in range(channels))
-            loudest = (max(max(part), -min(part)) / self._full for part in parts)
-            self._peaks = [max(pair) for pair in zip(self._peaks, loudest)]
+        if self.is_shown:
+            self._peaks.hear(samples)
 
     def count(self) -> None:
         """Notes a checkpoint."""
@@ -175,11 +163,10 @@ class _Meter(Line):
     def show(self) -> None:
         if self.is_due():
             rate, name = self._writer.info.sample_rate, os.path.basename(os.fspath(self._writer.paths[-1]))
-            peaks = " ".join(map(_decibels, self._peaks))
-            times = [_clock(frames / rate) for frames in (self._writer.tell(), self._counted)]
+            peaks = " ".join(self._peaks.taken())
+            times = [clock(frames / rate) for frames in (self._writer.tell(), self._counted)]
             size = self._writer._end() / (1 << 20)
             self.write(f"{times[0]}  {peaks} dB  checkpoint at {times[1]}  {name}: {size:.1f} MiB")
-            self._peaks = [0.0] * len(self._peaks)
 
 
 def _recorded(writer: hound.Writer, source: _Input, form: hound.Info, every: float) -> int:

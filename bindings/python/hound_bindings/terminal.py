@@ -1,17 +1,19 @@
 """What the command hound-wav says, and shows on a terminal."""
+import array
 import contextlib
+import math
 import os
 import select
 import shutil
 import sys
 import time
-from typing import Any, TypeVar
+from typing import Any, List, TypeVar
 
 import hound_bindings as hound
 
 from ._library import Advice, named
 
-__all__ = ["Bar", "Line", "Wrong", "complain", "note", "say", "sentence_of"]
+__all__ = ["Bar", "Line", "Peaks", "Wrong", "clock", "complain", "note", "say", "sentence_of"]
 
 # What would end a line, or be more than text for a terminal, is written as Python does in a string.
 _ESCAPES = {code: repr(chr(code))[1:-1] for code in (*range(32), *range(127, 160), 0x2028, 0x2029)}
@@ -57,6 +59,29 @@ def sentence_of(error: Exception) -> str:
     if isinstance(error, hound.HoundError):
         return error._said(_ADVICE)
     return str(error)
+
+
+def clock(seconds: float) -> str:
+    return f"{int(seconds) // 3600}:{int(seconds) // 60 % 60:02}:{int(seconds) % 60:02}"
+
+
+class Peaks:
+    """How loud each channel of samples of a file is."""
+
+    def __init__(self, info: hound.Info) -> None:
+        self._full, self._peaks = 1.0 if info.is_float else 2.0 ** (info.bits_per_sample - 1), [0.0] * info.channels
+
+    def hear(self, samples: "array.array[Any]") -> None:
+        channels = len(self._peaks)
+        if samples:
+            parts = (samples[channel::channels] for channel in range(channels))
+            loudest = (max(max(part), -min(part)) / self._full for part in parts)
+            self._peaks = [max(pair) for pair in zip(self._peaks, loudest)]
+
+    def taken(self) -> List[str]:
+        """The peaks since this was called before, in decibels."""
+        peaks, self._peaks = self._peaks, [0.0] * len(self._peaks)
+        return [f"{20 * math.log10(peak):.1f}" if peak > 0 else "-inf" for peak in peaks]
 
 
 class Line:

@@ -1193,6 +1193,84 @@ class Command(Folder):
         self.assertIn(b"would not fit in 32 bits", self.said)
         self.assertEqual(os.listdir(self.folder), ["a.wav"])
 
+    def recorded(self, **form):
+        """A process that records ten blocks of five frames, each counted, and one more, and is then killed."""
+        child = os.fork()
+        if child == 0:
+            try:
+                writer = hound.create(self.path, 8000, 2, 16, **form)
+                for _ in range(10):
+                    writer.write(SAMPLES)
+                    writer.flush()
+                    time.sleep(0.02)
+                writer.write(SAMPLES[:4])
+                os.kill(os.getpid(), signal.SIGKILL)
+            finally:
+                os._exit(1)
+        self.addCleanup(os.waitpid, child, 0)
+
+    def test_a_recording_is_followed(self):
+        """Samples are written as soon as they are counted."""
+        floats = array.array("f", (sample / 32768 for sample in SAMPLES)).tobytes()
+        with hound.create(self.path, 8000, 2, 16) as writer:
+            running = self.begun("cat", "--follow", "--type", "float32", "a.wav")
+            for _ in range(3):
+                writer.write(SAMPLES)
+                writer.flush()
+                self.assertEqual(running.stdout.read(len(floats)), floats)
+            writer.write(SAMPLES)
+        out, said = running.communicate(timeout=60)
+        self.assertEqual((out, said, running.returncode), (floats, b"", 0))
+
+    def test_a_killed_recording_is_followed(self):
+        for form, words, name in (({}, [], b"a.wav"), ({"split": 20}, ["--parts"], b"a-003.wav")):
+            self.recorded(**form)
+            said = self.run_command("cat", "--follow", "--timeout", "9", *words, "a.wav", status=1)
+            self.assertEqual(said, SAMPLES.tobytes() * 10)
+            self.assertEqual(self.said, b"hound-wav: %s: the recorder was killed: hound-wav repair adds 2 frames\n" % name)
+            self.run_command("repair", ".")
+            for name in os.listdir(self.folder):
+                os.unlink(os.path.join(self.folder, name))
+        self.leave_as("a.wav", b"RIFF")
+        self.assertEqual(self.run_command("cat", "--follow", "a.wav", status=1), b"")
+        self.assertEqual(self.said, b"hound-wav: a.wav: it has no header, and nobody records it\n")
+
+    def test_a_recording_is_shown(self):
+        """A line a second, with the peaks since the one before, and one at the end."""
+        loud, quiet = array.array("h", [16384, -32768] * 4000), array.array("h", [0, 3277] * 4000)
+        def until(running, frames):
+            while f"  {frames} frames  " not in (line := running.stdout.readline().decode()):
+                self.assertNotEqual(line, "")
+            return line
+
+        with hound.create(self.path, 8000, 2, 16, split=6000) as writer:
+            running = self.begun("info", "--follow", "--parts", "a.wav")
+            self.assertEqual(running.stdout.readline(), b"a.wav: 8000 Hz, 2 channels, 16 bits\n")
+            for block, seconds, frames, peaks in ((loud, 0, 4000, "-6.0 0.0"), (quiet, 1, 8000, "-inf -20.0")):
+                writer.write(block)
+                writer.flush()
+                self.assertEqual(until(running, frames), f"0:00:0{seconds}  {frames} frames  {peaks} dB\n")
+            writer.write(quiet)
+        self.assertEqual(until(running, 12000), "0:00:01  12000 frames  -inf -20.0 dB\n")
+        self.assertEqual((running.communicate(timeout=60)[1], running.returncode), (b"", 0))
+        rows = self.run_command("info", "--json", "--follow", "--parts", "a.wav").splitlines()
+        self.assertEqual(json.loads(rows[-1]), {"file": "a.wav", "seconds": 1.5, "frames": 12000, "peaks": [-6.0, 0.0]})
+
+    def test_arguments_of_following(self):
+        self.leave_as("a.wav", made_by_wave(SAMPLES))
+        for words in (
+            ["cat", "--follow", "-"], ["cat", "--follow", "--to-end", "a.wav"], ["info", "--follow", "-"],
+            ["cat", "--parts", "a.wav"], ["info", "--idle", "1", "a.wav"], ["cat", "--timeout", "1", "a.wav"],
+            ["cat", "--follow", "--idle", "-1", "a.wav"], ["info", "--follow", "--timeout", "x", "a.wav"],
+        ):  # fmt: skip
+            self.run_command(*words, status=2)
+        self.assertEqual(self.run_command("cat", "--follow", "--idle", "0.3", "a.wav"), SAMPLES.tobytes())
+        self.assertIn(b"a.wav: 8000 Hz", self.run_command("info", "--follow", "a.wav"))
+        self.run_command("cat", "--follow", "none.wav", status=1)
+        self.assertEqual(self.said, b"hound-wav: none.wav: No such file or directory\n")
+        self.run_command("info", "--follow", "--timeout", "0.2", "none.wav", status=1)
+        self.assertEqual(self.said, b"hound-wav: none.wav: nothing new is counted\n")
+
     def test_help(self):
         self.assertIn(b"status 0", self.run_command("--help"))
         for name in "info", "repair", "cat", "convert", "join", "record":

@@ -74,21 +74,32 @@ def unlink(path):
     os.unlink(path)
 
 
-def lock_file(handle, flags, reserved, low, high, overlapped):
-    """What LockFileEx does with an OVERLAPPED of 32 bytes: the byte of hound_file.h is locked, for one handle, at
-    once."""
+def check_place(reserved, low, high, overlapped):
+    """What is locked is the byte of hound_file.h, by an OVERLAPPED of 32 bytes."""
     place = overlapped._obj
-    asked = flags, reserved, low, high, place.place, type(place).place.offset, ctypes.sizeof(place)
-    if asked != (3, 0, 1, 0, 1 << 62, 16, 32):
-        raise AssertionError(f"another lock: {asked}")
+    asked = reserved, low, high, place.place, type(place).place.offset, ctypes.sizeof(place)
+    if asked != (0, 1, 0, 1 << 62, 16, 32):
+        raise AssertionError(f"another place: {asked}")
+
+
+def lock_file(handle, flags, *place):
+    """What LockFileEx does at once: it locks for one handle, or for all that only look."""
+    check_place(*place)
     with contextlib.suppress(OSError):
-        fcntl.flock(handle - HANDLE, fcntl.LOCK_EX | fcntl.LOCK_NB)
+        fcntl.flock(handle - HANDLE, {1: fcntl.LOCK_SH, 3: fcntl.LOCK_EX}[flags] | fcntl.LOCK_NB)
         return 1
     return 0
 
 
+def unlock_file(handle, *place):
+    check_place(*place)
+    fcntl.flock(handle - HANDLE, fcntl.LOCK_UN)
+    return 1
+
+
 HANDLE, LOCK_VIOLATION = 1 << 40, 33
-ctypes.WinDLL = lambda name, use_last_error: types.SimpleNamespace(**{"kernel32": {"LockFileEx": lock_file}}[name])
+LOCKS = {"LockFileEx": lock_file, "UnlockFileEx": unlock_file}
+ctypes.WinDLL = lambda name, use_last_error: types.SimpleNamespace(**{"kernel32": LOCKS}[name])
 ctypes.get_last_error = lambda: LOCK_VIOLATION
 
 
@@ -109,6 +120,7 @@ def imported():
 hound = imported()
 import test_files  # noqa: E402
 import test_floats  # noqa: E402
+import test_following  # noqa: E402
 import test_resuming  # noqa: E402
 import test_streams  # noqa: E402
 from test_streams import SAMPLES, content_of  # noqa: E402
@@ -211,6 +223,7 @@ def load_tests(loader, tests, _):
     # The tests of test_streams.py are interrupted at each bytecode.
     test_streams.Recordings.step = test_streams.Parts.step = 7
     cases = test_files.Files, test_streams.Streams, test_streams.Recordings, test_streams.Parts, test_resuming.Resuming
+    cases = *cases, test_following.Following
     for case in (*cases, test_floats.Floats, test_floats.Specs, test_floats.Objects):
         for name in loader.getTestCaseNames(case):
             if not re.search(UNIX, inspect.getsource(getattr(case, name))):

@@ -24,3 +24,10 @@ hound.resume(io.BytesIO(), 8000, 2, 24)  # type: ignore[arg-type]
 hound.write("a.wav", samples, 8000, 2, 24, 4)  # type: ignore[misc]
 hound.append("a.wav", samples, True)  # type: ignore[misc]
 hound.read("a.wav", 0, -1, "int16", always_2d=True)
+for block in hound.follow("a.wav", 4096, "float32", timeout=1, parts=True):
+    hound.write("b.wav", block, like=info)
+hound.follow("a.wav", 4096, "flot32")  # type: ignore[arg-type]
+with hound.Follower("a.wav") as follower:
+    hound.write("b.wav", follower.read(100, "int16"), like=follower.info)
+    added: int = follower.find_damage().added
+hound.Follower(io.BytesIO())  # type: ignore[arg-type]
