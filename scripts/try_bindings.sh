@@ -506,6 +506,8 @@ if has python3 "the Python package" && has "$cc" "the Python package"; then
         echo "bindings: passed over, since this Python has no ensurepip: pip"
         check "files of hound_rows, cut files and each code, beside the model, through cat.c and by record.c" quick_rows
     fi
+    check "each row of the tables of PROVING has a case, and the library does what the row says" \
+        with_package bindings/tests/tables.py
     has strace "record.c at the edges of a recording" \
         && check "record.c at the edges of a recording, and its wrong versions" python3 bindings/tests/recorder.py
     check "killed recorders that start again with the same file, by record.c and Node" python3 bindings/tests/starts.py 20

@@ -9,12 +9,12 @@ pub use Rattle.hound_spec.specs.declared.error.Error.{Error}
 pub use Rattle.hound_spec.specs.declared.spec.SampleFormat.{SampleFormat}
 pub use Rattle.hound_spec.specs.declared.spec.WavSpec.{WavSpec}
 pub use Rattle.hound_spec.specs.declared.spec.WavSpecEx.{WavSpecEx}
-pub use Rattle.hound_sample.specs.{IsEncoded, Rejection, WritesContainer, all_containers, and_more, bytes_in, containers, error_of, fits, if_fits, int_bytes, joined_containers, offset_byte, too_wide, unsupported, contained, int_container-in_width, pattern_container-in_width, FillsFront, ReadRejection, Reads, ReadsContainer, ReadsEach, ReadsItem, TakesContainer, TakesPart, answer_of, error_of_read, error_of_sample, first_reason, float_rejection, int_meaning, int_rejection, items_of, low_i16, misfit, other_format, pattern, read_error, reason_of, clipped, difference, double_of_int, float_of, float_of_int, full_scale, next_state, noise, scaled, scaled_to, with_bits}
+pub use Rattle.hound_sample.specs.{IsEncoded, Rejection, WritesContainer, all_containers, and_more, bytes_in, containers, error_of, fits, if_fits, int_bytes, joined_containers, offset_byte, too_wide, unsupported, contained, int_container-in_width, pattern_container-in_width, FillsFront, ReadRejection, Reads, ReadsContainer, ReadsEach, ReadsItem, TakesContainer, TakesPart, answer_of, error_of_read, error_of_sample, first_reason, float_rejection, int_meaning, int_rejection, items_of, low_i16, misfit, other_format, pattern, read_error, reason_of, ComesBack, clipped, difference, double_of_int, float_of, float_of_int, full_scale, next_state, noise, scaled, scaled_to, with_bits}
 unfoldable pub use Rattle.hound_sample.specs.{int_container, pattern_container, state_after, with_noise}
 pub use Rattle.hound_sample.specs.declared.item.SampleError.{SampleError}
 pub use Rattle.hound_medium.specs.{FlushedSince, Flushes, Gets, Goes, IsMoved, MediumState, Puts, PutsAll, PutsFirst, Shifts, Span, Stays, WhereKeeps, WhereTells, count_of, faults_after, moment, one_more, overlay, place_reached, placed, put_at, unknown, FailsAt, IsNumbered, SameRequests, calls, greatest_count}
 pub use Rattle.hound_durable.specs.{Ascends, IsBelow, IsItsFault, IsLastBefore, LeadsBack, OnlySyncs, SurvivesLoss, byte_at, left_of, left_own, own, place_of, replays_own, Around, synced, within}
-pub use Rattle.hound_walk.specs.{Answer, Answers, AnswersFile, Chunk, Chunks, HasOneAnswer, HasOneFileAnswer, Head, IsChunk, IsDataPlace, IsSoundSpec, Readable, Rejected, Unreadable, Walk, by_subformat, chunk_bytes, cut_fault, data_fault, fault_of, first_fault, fmt_fault, fmt_len, fmt_of, joined, last_spec, ok_of, readable, spec_of, unreadable, width_of, with_format, with_valid_bits, AreTaken, CountsFailed, Gives, IsSoundChunk, IsSoundOption, ReadsChunk, ReadsContent, ReadsFormat, RejectedAfter, Rejects, RejectsFront, ReportsFront, SaysContent, TakesAll, TakesFor, TakesFront, TakesLess, UnreadableAfter, Walked, Walks, chunk_taken, content_taken, content_takes, front_taken, FailsAs, IsRejection, Names, OpensAs, ReportsError, reason_text, AnswersBytes, FindsData, Untouched, account_of, faults_after_walk, unread, IsAfter, IsAhead, IsAt, IsAtPart, IsNearer, IsSoundStep, LeadsTo, Reaches, part_bytes, part_length, part_start, parts_left}
+pub use Rattle.hound_walk.specs.{Answer, Answers, AnswersFile, Chunk, Chunks, HasOneAnswer, HasOneFileAnswer, Head, IsChunk, IsDataPlace, IsSoundSpec, Readable, Rejected, Unreadable, Walk, by_subformat, chunk_bytes, cut_fault, data_fault, fault_of, first_fault, fmt_fault, fmt_len, fmt_of, joined, last_spec, ok_of, readable, spec_of, unreadable, width_of, with_format, with_valid_bits, AreTaken, CountsFailed, Gives, IsSoundChunk, IsSoundOption, ReadsChunk, ReadsContent, ReadsFormat, RejectedAfter, Rejects, RejectsFront, ReportsFront, SaysContent, TakesAll, TakesFor, TakesFront, TakesLess, UnreadableAfter, Walked, Walks, chunk_taken, content_taken, content_takes, front_taken, FailsAs, IsRejection, Names, OpensAs, ReportsError, reason_text, AnswersBytes, FindsData, Untouched, account_of, faults_after_walk, unread, IsAfter, IsAhead, IsAt, IsAtPart, IsNearer, IsNearerWithin, IsSoundStep, LeadsTo, Reaches, part_bytes, part_length, part_start, parts_left, parts_within}
 unfoldable pub use Rattle.hound_walk.specs.{by_tag, chunk_fault, content_fault, fmt_said, front_fault, spec_after, wave_format, wave_format_extensible, wave_format_ieee_float, wave_format_pcm}
 pub use Rattle.hound_walk.specs.declared.cause.Cause.{Cause}
 pub use Rattle.hound_walk.specs.declared.cause.HeadError.{HeadError}
@@ -33,7 +33,7 @@ pub use Rattle.hound_writer.specs.declared.recorder.Recorder.{Recorder}
 pub use Rattle.hound_writer.specs.declared.recorder.RecorderError.{RecorderError}
 pub use Rattle.hound_writer.specs.declared.resuming.RepairState.{RepairState}
 pub use Rattle.hound_writer.specs.declared.resuming.FoundFile.{FoundFile}
-pub use Rattle.hound_repair.specs.{are_right, begins_chunk, broadcast_tags, counts_all, frame_length, frames_held, has_tag, held, if_some, is_printable, is_sample, known_tags, mended, metadata_tags, missing_pad, program_tags, riff_tags, right_length, said_length, shown_length, torn_bytes, update_tags, AreRightSizes, Finds, FindsDamage, HasRightLength, HasUnfitHead, IsFoundAt, IsNoPad, IsNotFound, IsRepairFault, IsSame, IsSoundDamage, LacksRoom, LeavesFor, Looks, ReadsFrames, Repairs, RepairsBytes, UnlessFollowed, as_medium, found_length, frames_found, is_mended, repair_of, shown_of, state_of, torn_found, unfollowed_state, whole_frames, AreEnough, AsksAfter, AsksEffect, AsksMore, AsksNext, AsksOfLook, AsksPart, IsAsked, IsAtChunk, IsAtEnd, IsAtStage, IsFoundAs, IsFoundFrom, IsLengthOf, IsLookFrom, IsLookOf, IsLookedAt, IsMeasured, IsNotFollowed, IsNotRepaired, IsRejectedFor, IsRepair, IsSearched, IsShown, IsSoundHead, IsSoundLook, IsSoundRepairStep, IsSoundRepairing, IsSoundStage, IsUnfollowed, LeavesPartly, LooksTo, MeasuresTo, Mends, MendsAtEach, MendsMedium, MendsThroughLoss, PartlyMended, PerformedOn, PerformsOn, PerformsRepair, Remeasures, RepairsMedium, StageNearer, StaysAt, StaysWith, SurvivesMending, WhereFound, WhereRead, asked_count, asks_for, effects_left, effects_of_task, effects_where, else_followed, failure_of, followed, has_all, has_right, head_of, looks_for_chunks, mending, mending_effects, mends_for, pads, rejected_for, stage_place, steps_left, tagged, DoesFor, IsFoundIn, IsMidway, IsPartlyRepaired, IsRequest, IsTried, IsUnderRepair, contents_after, first_stage}
+pub use Rattle.hound_repair.specs.{are_right, begins_chunk, broadcast_tags, counts_all, frame_length, frames_held, has_tag, held, if_some, is_printable, is_sample, known_tags, mended, metadata_tags, missing_pad, program_tags, riff_tags, right_length, said_length, shown_length, torn_bytes, update_tags, AreRightSizes, Finds, FindsDamage, HasRightLength, HasUnfitHead, IsFoundAt, IsNoPad, IsNotFound, IsRepairFault, IsSame, IsSoundDamage, LacksRoom, LeavesFor, Looks, ReadsFrames, Repairs, RepairsBytes, UnlessFollowed, as_medium, found_length, frames_found, is_mended, repair_of, shown_of, state_of, torn_found, unfollowed_state, whole_frames, AreEnough, AsksAfter, AsksEffect, AsksMore, AsksNext, AsksOfLook, AsksPart, IsAsked, IsAtChunk, IsAtEnd, IsAtStage, IsFoundAs, IsFoundFrom, IsLengthOf, IsLookFrom, IsLookOf, IsLookedAt, IsMeasured, IsNotFollowed, IsNotRepaired, IsRejectedFor, IsRepair, IsSearched, IsShown, IsSoundHead, IsSoundLook, IsSoundRepairStep, IsSoundRepairing, IsSoundStage, IsUnfollowed, LeavesMended, LeavesPartly, LooksTo, MeasuresTo, MendsAtEach, MendsMedium, MendsThroughLoss, PartlyMended, PerformedOn, PerformsOn, PerformsRepair, Remeasures, RepairsMedium, StageNearer, StaysAt, StaysWith, SurvivesMending, WhereFound, WhereRead, asked_count, asks_for, effects_left, effects_of_task, effects_where, else_followed, failure_of, followed, has_all, has_right, head_of, looks_for_chunks, mending, mending_effects, mends_for, pads, rejected_for, stage_place, steps_left, tagged, DoesFor, IsFoundIn, IsMidway, IsPartlyRepaired, IsRequest, IsTried, IsUnderRepair, contents_after, first_stage}
 unfoldable pub use Rattle.hound_repair.specs.{are_at_most, are_chunks, chunk_content, data_held, ends_with_id3, ends_with_pad, has_known_tag, has_pad, is_followed, uncounted, repair_fault, size_fault}
 pub use Rattle.hound_repair.specs.declared.look.Damage.{Damage}
 pub use Rattle.hound_repair.specs.declared.look.Repair.{Repair}

@@ -90,7 +90,7 @@ pub use hound_repair::{
 };
 pub use hound_sample::{
     Decode, FloatBits, Sample, change_bits, float_to_int, i16s_are_kept, int_to_float,
-    integers_come_back,
+    integers_come_back, scaled_integers_come_back,
 };
 pub use hound_spec::{Error, Result, SampleFormat, WavSpec, WavSpecEx, header_of};
 pub use hound_walk::{one_answer, read_wave_header, written_is_head};

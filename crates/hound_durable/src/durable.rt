@@ -3,7 +3,7 @@ ghost use Rattle.std.specs.Prelude.{◌≡◌, ◌+◌, ◌^◌, ◌<◌, ◌≤
 ghost use Rattle.std.specs.Int.{FitsUnsigned, w64};
 ghost use Rattle.std.specs.Io.{ReadsAtMost};
 ghost use Rattle.std.specs.Io.KnownBytes.{ReadConsumes};
-ghost use Rattle.hound_medium.specs.{Goes, Shifts, Gets, Puts, Flushes, Stays, WhereTells, WhereKeeps, faults_after};
+ghost use Rattle.hound_medium.specs.{Goes, Shifts, Gets, Puts, Flushes, Stays, WhereTells, WhereKeeps, faults_after, one_more};
 ghost use Rattle.hound_durable.specs.Losses.{Ascends, IsBelow, IsItsFault, IsLastBefore, LeadsBack, OnlySyncs, own, left_of, replays_own, left_own};
 
 use hound_medium::{Medium, Placed, Source, count_fault};
@@ -19,7 +19,11 @@ use std::io::ErrorKind;
 ///
 /// If the medium within `tells`, so does this one, with the same bytes. Its counts of faults and of flushed bytes are
 /// its own: a flush that comes before a step back counts as part of it. If that flush fails, the step is the one fault,
-/// and nothing has moved.
+/// and nothing has moved. Each of its faults is one of the medium within, too (`IsItsFault`), so it has counted no more
+/// than that one ([`a_durable_medium_ascends`](crate::a_durable_medium_ascends)).
+///
+/// Its places go up to `i64::MAX`, as those of a file do. A call that leads past that, and one that writes more bytes
+/// than 64 bits can count, fails as a step before the first byte does.
 #[derive(Drop)]
 pub struct Durable<M: Medium> {
     inner: M,
@@ -38,6 +42,8 @@ pub struct Durable<M: Medium> {
         (Ascends (M.state inner).past (M.state inner).flushed (length (M.state inner).past)) },
     ghost marked: { WhereKeeps M.tells M.keeps (flushed ≤ (M.state inner).flushed) },
     ghost known: { WhereKeeps M.tells M.keeps ((M.state inner).flushed ≤ length (M.state inner).past) },
+    ghost low: { place < 2 ^ 63 },
+    ghost counted: { WhereTells M.tells (faults ≤ (M.state inner).faults) },
 }
 
 impl<M: Medium> Durable<M> {
@@ -90,6 +96,24 @@ impl<M: Medium> Durable<M> {
         self.end = 0;
         Ok(())
     }
+
+    // The fault of a call that no place or count allows: that of a step before the first byte, which the medium within
+    // rejects.
+    fn fail(&mut self) -> io::Error
+        ensures stays { WhereTells M.tells (Stays (within self.old) (within self.new)) }
+        ensures place { WhereTells M.tells ((within self.new).place ≡ (within self.old).place) }
+        ensures flushed { WhereTells M.tells (synced self.new ≡ synced self.old) }
+        ensures fault { WhereTells M.tells ((within self.new).faults ≡ one_more (within self.old).faults) }
+        ensures counts { self.new.faults ≡ one_more self.old.faults }
+        ensures own_flushed { self.new.flushed ≡ self.old.flushed }
+    {
+        let outcome = self.inner.shift(i64::MIN);
+        self.faults = self.faults.saturating_add(1);
+        match outcome {
+            Ok(()) => io::Error::from(ErrorKind::InvalidInput),
+            Err(error) => error,
+        }
+    }
 }
 
 // The place so many bytes after another one, or before it if negative, if there is one.
@@ -124,6 +148,9 @@ impl<M: Medium> Placed for Durable<M> {
         ensures only_syncs { WhereKeeps M.tells M.keeps (OnlySyncs (within self.old) (within self.new)) }
         ensures fault { WhereTells M.tells (IsItsFault result (within self.old) (within self.new)) }
     {
+        if to > i64::MAX as u64 {
+            return Err(self.fail());
+        }
         if to < self.end {
             self.sync()?;
         }
@@ -142,12 +169,12 @@ impl<M: Medium> Placed for Durable<M> {
             ((LeadsBack (within self.new).place (within self.old).past (synced self.old) → ⊥)
             → OnOk result (synced self.new ≡ synced self.old)) }
         ensures only_syncs { WhereKeeps M.tells M.keeps (OnlySyncs (within self.old) (within self.new)) }
-        ensures fault { WhereTells M.tells (FitsUnsigned w64 (pos (within self.old).place +ℤ by)
-            → IsItsFault result (within self.old) (within self.new)) }
+        ensures fault { WhereTells M.tells (IsItsFault result (within self.old) (within self.new)) }
     {
-        let to = place_from(self.place, by);
-        let to = count_fault(to.ok_or(ErrorKind::InvalidInput), &mut self.faults)?;
-        self.go(to)
+        match place_from(self.place, by) {
+            Some(to) => self.go(to),
+            None => Err(self.fail()),
+        }
     }
 }
 
@@ -157,22 +184,19 @@ impl<M: Medium> Medium for Durable<M> {
     ghost replays = { λ d tells keeps.
         replays_own M.keeps (M.state d.inner) d.faults d.flushed keeps (M.replays d.inner tells keeps) };
 
-    /// As that of the medium within. It is also an `Err` of kind `OutOfMemory` if the end of the bytes, or the count of
-    /// all bytes written, would pass `u64::MAX`.
+    /// As that of the medium within. It is also an `Err` if the end of the bytes would pass `i64::MAX`, or the count of
+    /// all bytes written `u64::MAX`.
     fn put(&mut self, bytes: &[u8]) -> io::Result<usize>
         requires { 0 < length bytes.now }
         ensures bound { IfOk result (λ n. (1 ≤ n) × (n ≤ length bytes.now)) }
         ensures puts { let state = ⟦<Durable<M> as Placed>⟧.state in
             WhereTells M.tells (Puts M.keeps bytes.now result (state self.old) (state self.new)) }
         ensures synced { WhereKeeps M.tells M.keeps (synced self.new ≡ synced self.old) }
-        ensures fault { WhereKeeps M.tells M.keeps ((within self.old).place + length bytes.now < 2 ^ 64
-            → length (within self.old).past + length bytes.now < 2 ^ 64
-            → IsItsFault result (within self.old) (within self.new)) }
+        ensures fault { WhereTells M.tells (IsItsFault result (within self.old) (within self.new)) }
     {
-        let room = (u64::MAX - self.place).min(u64::MAX - self.taken);
+        let room = (i64::MAX as u64 - self.place).min(u64::MAX - self.taken);
         if room < bytes.len() as u64 {
-            let too_long = io::Error::from(ErrorKind::OutOfMemory);
-            return count_fault(Err(too_long), &mut self.faults);
+            return Err(self.fail());
         }
         let n = count_fault(self.inner.put(bytes), &mut self.faults)?;
         self.place += n as u64;
@@ -207,8 +231,7 @@ impl<M: Medium + Source> io::Read for Durable<M> {
         ensures gets { let state = ⟦<Durable<M> as Placed>⟧.state in
             WhereTells M.tells (Gets buf.new result (state self.old) (state self.new)) }
         ensures synced { WhereKeeps M.tells M.keeps (synced self.new ≡ synced self.old) }
-        ensures fault { WhereTells M.tells ((within self.old).place + length buf.old < 2 ^ 64
-            → IsItsFault result (within self.old) (within self.new)) }
+        ensures fault { WhereTells M.tells (IsItsFault result (within self.old) (within self.new)) }
     {
         self.get(buf)
     }
@@ -225,12 +248,10 @@ impl<M: Medium + Source> Source for Durable<M> {
         ensures gets { let state = ⟦<Durable<M> as Placed>⟧.state in
             WhereTells M.tells (Gets buf.new result (state self.old) (state self.new)) }
         ensures synced { WhereKeeps M.tells M.keeps (synced self.new ≡ synced self.old) }
-        ensures fault { WhereTells M.tells ((within self.old).place + length buf.old < 2 ^ 64
-            → IsItsFault result (within self.old) (within self.new)) }
+        ensures fault { WhereTells M.tells (IsItsFault result (within self.old) (within self.new)) }
     {
-        if u64::MAX - self.place < buf.len() as u64 {
-            let too_far = io::Error::from(ErrorKind::InvalidInput);
-            return count_fault(Err(too_far), &mut self.faults);
+        if i64::MAX as u64 - self.place < buf.len() as u64 {
+            return Err(self.fail());
         }
         let n = count_fault(Source::get(&mut self.inner, buf), &mut self.faults)?;
         self.place += n as u64;

@@ -11,7 +11,8 @@ use hound_medium::{Medium, Placed};
 /// places.
 ///
 /// So a loss of power leaves it as `SurvivesLoss` allows from that flush on. The flush is at least as late as the last
-/// Ok `flush` of the durable medium.
+/// Ok `flush` of the durable medium. Where no call of the medium within has failed, none of the durable one has
+/// (`faults`).
 pub fn a_durable_medium_ascends<M: Medium>(durable: &Durable<M>)
     ensures contents { WhereTells M.tells
         ((⟦<Durable<M> as Placed>⟧.state durable.now).contents ≡ (within durable.now).contents) }
@@ -21,6 +22,8 @@ pub fn a_durable_medium_ascends<M: Medium>(durable: &Durable<M>)
     ensures flushed { WhereKeeps M.tells M.keeps
         ((⟦<Durable<M> as Placed>⟧.state durable.now).flushed ≤ synced durable.now) }
     ensures known { WhereKeeps M.tells M.keeps (synced durable.now ≤ length (within durable.now).past) }
+    ensures faults { WhereTells M.tells
+        ((⟦<Durable<M> as Placed>⟧.state durable.now).faults ≤ (within durable.now).faults) }
     ensures ascends { WhereKeeps M.tells M.keeps
         (Ascends (within durable.now).past (synced durable.now) (length (within durable.now).past)) }
 {}

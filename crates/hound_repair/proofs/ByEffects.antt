@@ -10,7 +10,7 @@ use Rattle.hound_writer.specs.{PutsNothing}
 use Rattle.hound_writer.proofs.Heads.{head_beyond, head_inside}
 use Rattle.hound_repair.specs.Repairing.{FindsDamage, IsSoundDamage, repair_of, IsNotFound, IsRepairFault, Repairs, is_mended}
 use Rattle.hound_repair.specs.Held.{held}
-use Rattle.hound_repair.specs.Steps.{IsNotRepaired, IsRejectedFor, IsRepair, Mends, MendsAtEach, MendsThroughLoss, PartlyMended, PerformedOn, effects_of_task, effects_where, looks_for_chunks, mending, mending_effects, mends_for, rejected_for}
+use Rattle.hound_repair.specs.Steps.{IsNotRepaired, IsRejectedFor, IsRepair, LeavesMended, MendsAtEach, MendsThroughLoss, PartlyMended, PerformedOn, effects_of_task, effects_where, looks_for_chunks, mending, mending_effects, mends_for, rejected_for}
 use Rattle.hound_repair.specs.declared.look.Damage.{Damage}
 use Rattle.hound_repair.specs.declared.stages.Task.{Task}
 use Rattle.hound_writer.specs.declared.resuming.RepairState.{RepairState}
@@ -61,7 +61,7 @@ module _ (looks keeps : Bool) (old mid new : MediumState) (d : Damage) (sound : 
       (length_fits looks old.contents (repair_of d) d.head.data_length start finds.found (apart_by put))
 
   mends_mid : (result : Result (Unit {0}) IoFault) → is_mended (not looks) d.state ≡ true
-      → PerformedOn keeps (mending d) result mid new → Mends start n result mid.contents new
+      → PerformedOn keeps (mending d) result mid new → LeavesMended start n result mid.contents new
   mends_mid result put performed =
       let same = finds.puts.stays.contents in
       mends keeps start n mid.contents

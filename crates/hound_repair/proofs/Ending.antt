@@ -1,8 +1,6 @@
 -- A repair ends.
 use Rattle.std.proofs.lemmas.Grind.{common_steps}
 use Rattle.std.proofs.Common.{◌≡◌, ◌⊎◌, ℕ, ◌+◌, ◌/◌, ◌<◌, ◌≤◌, List, Ok, Err, arith}
-use Rattle.hound_walk.specs.{parts_left}
-use Rattle.hound_walk.specs.declared.parts.Part.TheVariants.{Front}
 use Rattle.hound_writer.specs.declared.effects.Action.{Action}
 use Rattle.hound_writer.specs.declared.effects.Report.{Report}
 use Rattle.hound_writer.specs.declared.effects.Report.TheVariants.{Done, Failed, Pending}
@@ -33,5 +31,5 @@ pub failed : (task : Task) (n : ℕ) (bytes : List ℕ) (report : Report) (old n
     → (report ≡ Failed) ⊎ (old ≡ states.Failed failure)
 failed task n bytes report old new failure given = grind (arith, common_steps)
 
-pub at_most : (n : ℕ) → effects_left n (Looks first_stage) ≤ n / 4 + parts_left Front 0 + 14
+pub at_most : (n : ℕ) → effects_left n (Looks first_stage) ≤ n / 2 + 16
 at_most n = omega arith

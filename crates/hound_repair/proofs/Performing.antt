@@ -17,7 +17,7 @@ use Rattle.hound_writer.proofs.Patching.{sizes_put}
 use Rattle.hound_writer.proofs.Sizes.{field_riff, same_length, same_riff, same_transitive}
 use Rattle.hound_repair.specs.Held.{held, mended, missing_pad}
 use Rattle.hound_repair.specs.Driving.{contents_after}
-use Rattle.hound_repair.specs.Steps.{Mends, PartlyMended, PerformedOn, PerformsOn, mending_effects, pads}
+use Rattle.hound_repair.specs.Steps.{LeavesMended, PartlyMended, PerformedOn, PerformsOn, mending_effects, pads}
 
 -- the bytes of a number are bytes
 pub small_bytes : (k n : ℕ) → AreBytes (bytes_of k n)
@@ -192,13 +192,14 @@ module _ (keeps : Bool) (start n : ℕ) (c : List ℕ) (beyond : 20 ≤ start) (
 
   -- all is done once the last effect is synced
   ends : (result : Result (Unit {0}) IoFault) (old new : MediumState) → old.contents ≡ mended start n c
-      → PartlyMended start n c old.contents → PerformedOn keeps (Sync ∷ []) result old new → Mends start n result c new
+      → PartlyMended start n c old.contents → PerformedOn keeps (Sync ∷ []) result old new
+      → LeavesMended start n result c new
   ends result old new all partly given = grind (arith, common_steps)
 
   -- the sync after the data length, and the pad byte
   at_pad : (pad : List ℕ) (result : Result (Unit {0}) IoFault) (old new : MediumState) → m ≡ pad
       → old.contents ≡ x → PerformedOn keeps (Sync ∷ pads (start + h) pad) result old new
-      → Mends start n result c new
+      → LeavesMended start n result c new
   at_pad [] result old new is here rest =
       grind (arith, common_steps, append-nil, x_is, partly_sizes, ends)
   at_pad (b ∷ more) result old new is here (mid, Err e, flushes, (was, last)) =
@@ -221,7 +222,7 @@ module _ (keeps : Bool) (start n : ℕ) (c : List ℕ) (beyond : 20 ≤ start) (
 
   -- the data length
   at_length : (result : Result (Unit {0}) IoFault) (old new : MediumState) → old.contents ≡ y
-      → PerformedOn keeps (Size p n ∷ Sync ∷ pads (start + h) m) result old new → Mends start n result c new
+      → PerformedOn keeps (Size p n ∷ Sync ∷ pads (start + h) m) result old new → LeavesMended start n result c new
   at_length result old new here (mid, Ok u, puts, rest) =
       at_pad m result mid new refl
       (puts.contents ∙ ap (λ l. overlay l (placed p (take puts.count (bytes_of 4 n)))) here
@@ -234,7 +235,8 @@ module _ (keeps : Bool) (start n : ℕ) (c : List ℕ) (beyond : 20 ≤ start) (
 
   -- the RIFF size, and the sync after it
   after_riff : (result : Result (Unit {0}) IoFault) (old new : MediumState) → old.contents ≡ y
-      → PerformedOn keeps (Sync ∷ Size p n ∷ Sync ∷ pads (start + h) m) result old new → Mends start n result c new
+      → PerformedOn keeps (Sync ∷ Size p n ∷ Sync ∷ pads (start + h) m) result old new
+      → LeavesMended start n result c new
   after_riff result old new here (mid, Ok u, flushes, rest) =
       at_length result mid new (flushes.stays.contents ∙ here) rest
   after_riff result old new here (mid, Err e, flushes, (is, last)) =
@@ -243,7 +245,7 @@ module _ (keeps : Bool) (start n : ℕ) (c : List ℕ) (beyond : 20 ≤ start) (
 
   at_riff : (result : Result (Unit {0}) IoFault) (old new : MediumState) → old.contents ≡ c
       → PerformedOn keeps (Size 4 (riff_size start n) ∷ Sync ∷ Size p n ∷ Sync ∷ pads (start + h) m) result old new
-      → Mends start n result c new
+      → LeavesMended start n result c new
   at_riff result old new here (mid, Ok u, puts, rest) =
       after_riff result mid new
       (puts.contents ∙ ap (λ l. overlay l (placed 4 (take puts.count riff))) here
@@ -255,7 +257,7 @@ module _ (keeps : Bool) (start n : ℕ) (c : List ℕ) (beyond : 20 ≤ start) (
 
   -- all of them
   pub mends : (result : Result (Unit {0}) IoFault) (old new : MediumState) → old.contents ≡ c
-      → PerformedOn keeps (mending_effects start n h) result old new → Mends start n result c new
+      → PerformedOn keeps (mending_effects start n h) result old new → LeavesMended start n result c new
   mends result old new here (mid, Ok u, flushes, rest) =
       at_riff result mid new (flushes.stays.contents ∙ here) rest
   mends result old new here (mid, Err e, flushes, (is, last)) =

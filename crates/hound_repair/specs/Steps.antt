@@ -1,7 +1,7 @@
 -- A repair whose caller reads and writes the file.
 use Rattle.std.specs.Prelude.{◌≡◌, ℕ, ◌^◌, min, ◌+◌, ◌-◌, ◌/◌, ◌≤◌, ◌<◌, ◌⊎◌, ⊤, MatchResult, Bool, not, true, false, ◌==◌, ◌||◌, ◌&&◌, List, [], ◌∷◌, ◌++◌, length, take, drop, Result, Ok, Err, Option, None, Some}
 use Rattle.hound_spec.specs.{greatest_u32, riff_size}
-use Rattle.hound_walk.specs.{Head, IsAt, IsDataPlace, IsSoundOption, IsSoundSpec, Rejected, part_length, part_start, parts_left}
+use Rattle.hound_walk.specs.{Head, IsAt, IsDataPlace, IsSoundOption, IsSoundSpec, Rejected, part_length, part_start, parts_within}
 use Rattle.hound_walk.specs.declared.cause.Cause.TheVariants as causes
 use Rattle.hound_repair.specs.declared.look.SeenHead.{SeenHead}
 use Rattle.std.specs.declared.io.Error.{Error as IoFault}
@@ -187,15 +187,15 @@ abbrev pub IsSoundLook : LookStep → Type 0
 IsSoundLook (Next stage) = IsSoundStage stage
 IsSoundLook (Found d) = IsSoundDamage d
 
--- How many parts a look at a file of so many bytes may still ask for: a chunk after the data has at least eight bytes,
--- and they are looked for twice, with a pad byte before them and without.
+-- How many parts a look at a file of so many bytes may still ask for: a chunk has at least eight bytes. Those after the
+-- data are looked for twice, with a pad byte before them and without.
 abbrev pub steps_left : ℕ → Stage → ℕ
 steps_left n (stages.Size head) = 1
 steps_left n (stages.Tag head) = 2
 steps_left n (stages.Chunk head place false) = 3 + (n - place) / 8
 steps_left n (stages.Chunk head place true) = 4 + n / 8 + (n - place) / 8
 steps_left n (stages.Last head) = 5 + n / 8 + n / 8
-steps_left n (stages.Head walk) = 6 + n / 8 + n / 8 + parts_left walk.part walk.taken
+steps_left n (stages.Head walk) = 6 + n / 8 + n / 8 + parts_within n walk.part walk.taken
 
 abbrev pub StageNearer : ℕ → ℕ → LookStep → Type 0
 StageNearer n left (Next stage) = steps_left n stage < left
@@ -281,8 +281,8 @@ PerformedOn keeps (effect ∷ effects) result old new =
     (λ fault. (result ≡ Err fault) × (new ≡ mid))
 
 -- what the effects leave, up to the first that failed: at an Ok what `repair` leaves
-abbrev pub Mends : ℕ → ℕ → Result (Unit {0}) IoFault → List ℕ → MediumState → Type 0
-Mends start n result old new = PartlyMended start n old new.contents
+abbrev pub LeavesMended : ℕ → ℕ → Result (Unit {0}) IoFault → List ℕ → MediumState → Type 0
+LeavesMended start n result old new = PartlyMended start n old new.contents
     × (result ≡ Ok tt → (new.contents ≡ mended start n old) × (new.flushed ≡ length new.past))
 
 -- a file that was looked at, by its caller

@@ -4,8 +4,7 @@ ghost use Rattle.std.specs.List.{concat, AllByRecursion};
 ghost use Rattle.hound_medium.specs.{MediumState, Span};
 ghost use Rattle.hound_durable.specs.{SurvivesLoss};
 ghost use Rattle.hound_number.specs.{AreBytes};
-ghost use Rattle.hound_walk.specs.{Head, IsSoundSpec, parts_left};
-ghost use Rattle.hound_walk.specs.declared.parts.Part.TheVariants.{Front};
+ghost use Rattle.hound_walk.specs.{Head, IsSoundSpec};
 ghost use Rattle.hound_spec.specs.declared.error.Error.{Error};
 ghost use Rattle.hound_spec.specs.declared.spec.WavSpecEx.{WavSpecEx};
 ghost use Rattle.hound_writer.specs.{IsIoError, IsStored, Log, Performed, PutsNothing, field};
@@ -24,7 +23,7 @@ ghost use Rattle.hound_repair.specs.declared.machine.Repairing.TheVariants as st
 ghost use Rattle.hound_repair.specs.declared.stages.Task.{Task};
 ghost use Rattle.hound_repair.specs.declared.stages.Unrepairable.{Unrepairable};
 ghost use Rattle.hound_repair.specs.Driving.{DoesFor, IsPartlyRepaired, IsRequest, IsUnderRepair, first_stage};
-ghost use Rattle.hound_repair.specs.Steps.{AsksNext, IsLengthOf, IsRejectedFor, IsRepair, asks_for, effects_left, IsLookedAt, IsNotRepaired, Mends, PartlyMended, looks_for_chunks, mending, mends_for};
+ghost use Rattle.hound_repair.specs.Steps.{AsksNext, IsLengthOf, IsRejectedFor, IsRepair, asks_for, effects_left, IsLookedAt, IsNotRepaired, LeavesMended, PartlyMended, looks_for_chunks, mending, mends_for};
 ghost use Rattle.hound_repair.specs.Held.{frame_length, held, mended, shown_length};
 ghost use Rattle.hound_repair.specs.Repairing.{Finds, IsFoundAt, IsNoPad, LeavesFor, repair_of, ReadsFrames, Repairs, found_length, is_mended, repair_fault};
 ghost use Rattle.hound_repair.specs.declared.look.Repair.{Repair};
@@ -80,7 +79,7 @@ pub fn a_look_finds_what_a_repair_does()
 pub fn effects_mend()
     ensures leaves { (looks : Bool) (d : Damage) (old new : Log) (result : Result (Unit {0}) IoFault)
         → IsLookedAt looks old.state.contents d → Performed (mending d) result old new
-        → Mends d.head.data_start d.sizes.data_length result old.state.contents new.state }
+        → LeavesMended d.head.data_start d.sizes.data_length result old.state.contents new.state }
     ensures moments { (looks : Bool) (d : Damage) (old new : Log) (result : Result (Unit {0}) IoFault)
         → IsLookedAt looks old.state.contents d → Performed (mending d) result old new
         → Span (λ _. PartlyMended d.head.data_start d.sizes.data_length old.state.contents) 0 old.state new.state }
@@ -162,8 +161,7 @@ pub fn a_repairer_repairs()
 /// without a report as many (`again`). A report of `Failed` ends it at once (`ended`), and nothing else ends it with
 /// the error that a call failed (`failed`).
 ///
-/// Of a file of n bytes they are at most n / 4, and those that read its header (`bounded`). Of these there may be up to
-/// 2^33, since a header that is handed in may be longer than the file.
+/// Of a file of n bytes they are some n / 2 at most, since each chunk has a header of eight bytes (`bounded`).
 pub fn a_repair_ends()
     ensures nearer { (task : Task) (n : ℕ) (bytes : List ℕ) (old new : Repairing) (action : Action)
         → AsksNext task n bytes Done old new (Ok (Asks action)) → effects_left n new < effects_left n old }
@@ -174,5 +172,5 @@ pub fn a_repair_ends()
     ensures failed { (task : Task) (n : ℕ) (bytes : List ℕ) (report : Report) (old new : Repairing)
         (failure : FailedAction) → AsksNext task n bytes report old new (Err (errors.Failed failure)) →
         (report ≡ Failed) ⊎ (old ≡ states.Failed failure) }
-    ensures bounded { (n : ℕ) → effects_left n (states.Looks first_stage) ≤ n / 4 + parts_left Front 0 + 14 }
+    ensures bounded { (n : ℕ) → effects_left n (states.Looks first_stage) ≤ n / 2 + 16 }
 {}

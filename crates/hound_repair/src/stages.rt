@@ -353,6 +353,10 @@ fn take_header(
     ensures from { IfOk result (IsLookFrom length bytes.now (stages.Head walk)) }
     ensures nearer { IfOk result (StageNearer length (steps_left length (stages.Head walk))) }
 {
+    // No file of so many bytes has more there.
+    if bytes.len() as u64 > length.saturating_sub(walk.start()) {
+        return Err(Unrepairable::Head(Cause::Ended));
+    }
     match take_part(walk, bytes) {
         Ok(Step::Next(next)) => Ok(LookStep::Next(Stage::Head(next))),
         Ok(Step::Data(head)) => Ok(LookStep::Next(after_head(length, task, head))),

@@ -56,6 +56,25 @@ next_with_noise float bits seed state i values x less is left =
     tails : {x y : Float} {xs ys : List Float} → x ∷ xs ≡ y ∷ ys → xs ≡ ys
     tails h = ap (drop 1) h
 
+-- the noise of a list in two parts: the second begins with the state that the first has left
+pub with_noise-append : {A : Type 0} (float : A → Float) (bits state : ℕ) (first second : List A)
+    → with_noise float bits state (first ++ second)
+    ≡ with_noise float bits state first ++ with_noise float bits (state_after (length first) state) second
+unfolding with_noise state_after
+with_noise-append float bits state [] second = refl
+with_noise-append float bits state (x ∷ first) second =
+    ap (λ xs. add binary64 (float x) (noise bits (next_state state)) ∷ xs)
+    (with_noise-append float bits (next_state state) first second)
+
+-- the state after some others, and then more
+pub state_after-+ : (first second state : ℕ)
+    → state_after (first + second) state ≡ state_after second (state_after first state)
+unfolding state_after
+state_after-+ zero second state = ap (λ n. state_after n state) (let none : 0 + second ≡ second = omega arith in none)
+state_after-+ (suc first) second state =
+    ap (λ n. state_after n state) (let next : suc first + second ≡ suc (first + second) = omega arith in next)
+    ∙ state_after-+ first second (next_state state)
+
 -- one state more
 pub one_more : (i state : ℕ) → next_state (state_after i state) ≡ state_after (i + 1) state
 unfolding state_after

@@ -11,16 +11,18 @@ use lib.IntN.{ℤ, pos, negsuc, nat_abs, neg_ℤ, ◌+ℤ◌, ◌-ℤ◌}
 use mir.Facts.{to_z-of_z}
 use Rattle.std.proofs.Common.{[], ◌∷◌, FitsSigned, of_z, slice_index_or, to_z, w32, w64}
 use mir.Val.{bool_byte}
-use lib.Pow.{pow_mono, pow_pos, shl_lt}
+use lib.Pow.{pow-add, pow-lt, pow_mono, pow_pos, shl_lt}
 use lib.Signed.{lt_z}
 use borrow.Author.Differences.{ints, neg_is, same_in, sum_is_lem}
 use borrow.Author.Tests.{le-leb, lt-ltb, ltb-false, ltb-true}
 use lib.Ieee.{Float, Format, binary32, binary64, nan, inf, fin, prec, low, emax, up, down, odd, size, nearest, units, round, sum, add, neg, mul, div, unlike, below, lt, of_bits, of_int, in_signed, to_signed, whole}
 use lib.Ieee.Digits.{size-le, size-lt}
 use lib.Ieee.Exact.{HasValue, round_exact, units_val}
-use lib.Ieee.Fits.{core, down_pos, nearest-le, round_is}
+use lib.Ieee.Fits.{core, down_pos, nearest-le, reach, round_is}
 use lib.Ieee.Nearest.{closest, closest_same}
 use Rattle.std.specs.Float.{round_ties_even, round_with}
+use Rattle.hound_sample.specs.Container.{fits}
+use Rattle.hound_sample.specs.Scale.{ComesBack, clipped, double_of_int, float_of_int, scaled}
 
 neg-odd : (d q k l : ℕ) → neg (odd d false q k l) ≡ odd d true q k l
 unfolding neg odd
@@ -495,3 +497,153 @@ times_one_over k less x =
 pub one_over : (y : Float) → div binary64 (of_bits binary64 0x3ff0_0000_0000_0000) y ≡ div binary64
     (of_int binary64 (pos 1)) y
 one_over y = ap (λ x. div binary64 x y) (sym one_is)
+
+-- ---- an integer over a power of two, and times it again
+
+-- a fraction of the same size
+as_fraction : (x : Float) (s : Bool) (w l num den : ℕ) → 0 < l → num * l ≡ w * den → HasValue x s w l
+    → HasValue x s num den
+as_fraction nan s w l num den p h v = absurd v
+as_fraction (inf t) s w l num den p h v = absurd v
+as_fraction (fin t m e) s w l num den p h v = (
+  v.0,
+  eq_of_mul-eq-mul_right l p (m * up e * den) (num * down e)
+      (let one : m * up e * den * l ≡ m * up e * l * den = omega arith in
+      let other : num * down e * l ≡ num * l * down e = omega arith in
+      one ∙ ap (λ a. a * den) v.1 ∙ (let turned : w * down e * den ≡ w * den * down e = omega arith in turned)
+      ∙ ap (λ a. a * down e) (sym h) ∙ sym other),
+)
+
+-- a whole number of the format's digits is a float itself
+whole_number : (f : Format) (s : Bool) (n : ℕ) → n < 2 ^ prec f → HasValue (round f s n 1) s n 1
+whole_number f s n few = round_exact f s n 1 n (low f) (omega arith) few
+    (lt_of_lt_of_le (shl_lt (prec f) (low f) few)
+    (pow_mono {i = prec f + low f} {j = low f + suc (emax f)} (omega (arith, reach f))))
+    (sym (mul-one (n * 2 ^ low f)))
+
+unlike-false : (s : Bool) → unlike s false ≡ s
+unlike-false true = refl
+unlike-false false = refl
+
+-- a whole number over 2^k is its fraction itself
+quotient : (f : Format) (s : Bool) (n k : ℕ) (x : Float) → n < 2 ^ prec f → k ≤ low f → HasValue x s n 1
+    → HasValue (div f x (fin false 1 (pos k))) s n (2 ^ k)
+unfolding div
+quotient f s n k nan few small v = absurd v
+quotient f s n k (inf t) few small v = absurd v
+quotient f s n k (fin t m e) few small v =
+    let num = m * up e * 1 in
+    let den = 1 * 2 ^ k * down e in
+    let some : 0 < den = mul-pos (mul-pos (omega arith) (pow_pos k)) (down_pos e) in
+    let parts : 2 ^ (low f - k) * 2 ^ k ≡ 2 ^ low f =
+    sym (pow-add 2 (low f - k) k) ∙ ap (λ i. 2 ^ i) (omega (arith, small)) in
+    let fine : n * 2 ^ (low f - k) < 2 ^ (low f + suc (emax f)) =
+    lt_of_lt_of_le (shl_lt (prec f) (low f - k) few)
+    (pow_mono {i = prec f + (low f - k)} {j = low f + suc (emax f)} (omega (arith, reach f))) in
+    let is : num * 2 ^ low f ≡ n * 2 ^ (low f - k) * den =
+    ap (λ a. a * 2 ^ low f) v.1 ∙ ap (λ a. n * down e * a) (sym parts) ∙ omega arith in
+    let same : n * den ≡ num * 2 ^ k =
+    (let turned : n * den ≡ n * down e * 2 ^ k = omega arith in turned) ∙ ap (λ a. a * 2 ^ k) (sym v.1) in
+    subst (λ u. HasValue (round f u num den) s n (2 ^ k)) (sym (unlike-false t ∙ v.0))
+    (as_fraction (round f s num den) s num den n (2 ^ k) some same
+    (round_exact f s num den n (low f - k) some few fine is))
+
+-- times 2^k it is the whole number again
+product : (s : Bool) (n k : ℕ) (x : Float) → n < 2 ^ 53 → HasValue x s n (2 ^ k)
+    → HasValue (mul binary64 x (fin false 1 (pos k))) s n 1
+unfolding mul
+product s n k nan few v = absurd v
+product s n k (inf t) few v = absurd v
+product s n k (fin t m e) few v =
+    let num = m * up e * (1 * 2 ^ k) in
+    let den = down e * 1 in
+    let some : 0 < den = mul-pos (down_pos e) (omega arith) in
+    let fine : n * 2 ^ low binary64 < 2 ^ (low binary64 + suc (emax binary64)) =
+    lt_of_lt_of_le (shl_lt 53 (low binary64) few)
+    (pow_mono {i = 53 + low binary64} {j = low binary64 + suc (emax binary64)} (lit≤ (tt {0}))) in
+    let same : num ≡ n * den = (let ones : num ≡ m * up e * 2 ^ k = omega arith in ones) ∙ v.1
+    ∙ (let one : n * down e ≡ n * den = omega arith in one) in
+    let is : num * 2 ^ low binary64 ≡ n * 2 ^ low binary64 * den =
+    ap (λ a. a * 2 ^ low binary64) same ∙ times_turned n den (2 ^ low binary64) in
+    subst (λ u. HasValue (round binary64 u num den) s n 1) (sym (unlike-false t ∙ v.0))
+    (as_fraction (round binary64 s num den) s num den n 1 some (sym same ∙ sym (mul-one num))
+    (round_exact binary64 s num den n (low binary64) some few fine is))
+  where
+    times_turned : (a b c : ℕ) → a * b * c ≡ a * c * b
+    times_turned a b c = omega arith
+
+-- the nearest whole number to one is itself
+nearest_whole : (s : Bool) (n : ℕ) (x : Float) → n ≤ 2 ^ 52 → HasValue x s n 1
+    → to_signed 63 (round_ties_even binary64 x) ≡ cond s (neg_ℤ (pos n)) (pos n)
+unfolding round_with
+nearest_whole s n nan few v = absurd v
+nearest_whole s n (inf t) few v = absurd v
+nearest_whole s n (fin t m e) few v =
+    subst (λ u. to_signed 63 (round_ties_even binary64 (fin u m e)) ≡ cond s (neg_ℤ (pos n)) (pos n)) (sym v.0) (by s)
+  where
+    is : closest (m * up e) (down e) ≡ n
+    is = by_parts (m * up e) (down e) n 0 (omega (arith, v.1)) (down_pos e)
+        ∙ ap (nearest n) (compare-lt 0 (down e) (down_pos e))
+
+    by : (s : Bool) → to_signed 63 (round_ties_even binary64 (fin s m e)) ≡ cond s (neg_ℤ (pos n)) (pos n)
+    by false = ap (λ i. to_signed 63 (round binary64 false i 1)) is ∙ (rounded false n few).1
+    by true = ap (λ i. to_signed 63 (round binary64 true i 1)) is ∙ (rounded true n few).1
+
+-- an integer over 2^k as a float, times 2^k, and as the nearest integer
+there_and_back : (f : Format) (s : Bool) (n k : ℕ) → n < 2 ^ prec f → n ≤ 2 ^ 52 → k ≤ low f
+    → of_int f (pos (2 ^ k)) ≡ fin false 1 (pos k) → of_int binary64 (pos (2 ^ k)) ≡ fin false 1 (pos k)
+    → to_signed 63 (round_ties_even binary64 (mul binary64 (div f (round f s n 1) (of_int f (pos (2 ^ k))))
+    (of_int binary64 (pos (2 ^ k))))) ≡ cond s (neg_ℤ (pos n)) (pos n)
+there_and_back f s n k few most small power factor =
+    (λ i. to_signed 63 (round_ties_even binary64 (mul binary64 (div f (round f s n 1) (power i)) (factor i))))
+    ∙ nearest_whole s n (mul binary64 (div f (round f s n 1) (fin false 1 (pos k))) (fin false 1 (pos k))) most
+    (product s n k (div f (round f s n 1) (fin false 1 (pos k))) (omega (arith, most))
+    (quotient f s n k (round f s n 1) few small (whole_number f s n few)))
+
+power32 : (k : ℕ) → k < 32 → of_int binary32 (pos (2 ^ k)) ≡ fin false 1 (pos k)
+unfolding are_powers is_power is_step
+power32 k less = power_of k (of_int binary32 (pos (2 ^ k))) (one_below binary32 0x3f80_0000 32 k refl less).0
+
+power64 : (k : ℕ) → k < 48 → of_int binary64 (pos (2 ^ k)) ≡ fin false 1 (pos k)
+unfolding are_powers is_power is_step
+power64 k less = power_of k (of_int binary64 (pos (2 ^ k))) (one_below binary64 0x3ff0_0000_0000_0000 48 k refl less).0
+
+-- an integer of so many bits is the same again
+module _ (f : Format) (bits : ℕ) (digits : bits - 1 < prec f) (small : bits - 1 ≤ low f) (few : bits ≤ 32)
+    (power : of_int f (pos (2 ^ (bits - 1))) ≡ fin false 1 (pos (bits - 1))) where
+  abbrev again : Float → ℤ
+  again x = to_signed 63 (round_ties_even binary64 (mul binary64 (div f x (of_int f (pos (2 ^ (bits - 1)))))
+      (of_int binary64 (pos (2 ^ (bits - 1))))))
+
+  of_size : (s : Bool) (n : ℕ) → n ≤ 2 ^ (bits - 1) → again (round f s n 1) ≡ cond s (neg_ℤ (pos n)) (pos n)
+  of_size s n h =
+      let most : 2 ^ (bits - 1) ≤ 2 ^ 31 = pow_mono {i = bits - 1} {j = 31} (omega (arith, few)) in
+      there_and_back f s n (bits - 1) (lt_of_le_of_lt h (pow-lt digits)) (omega (arith, h, most)) small power
+      (power64 (bits - 1) (omega (arith, few)))
+
+  came_back : (v : ℤ) → fits bits v ≡ true → again (of_int f v) ≡ v
+  unfolding of_int
+  came_back (pos n) fit = of_size false n (omega (arith, ltb-true _ _ fit))
+  came_back (negsuc n) fit = of_size true (suc n) (omega (arith, ltb-true _ _ fit))
+
+-- an integer that fits isn't clipped
+clipped-fits : (bits : ℕ) (v : ℤ) → fits bits v ≡ true → clipped bits v ≡ v
+clipped-fits bits (pos n) fit = ap pos (omega (arith, ltb-true _ _ fit))
+clipped-fits bits (negsuc n) fit = ap negsuc (omega (arith, ltb-true _ _ fit))
+
+comes_back : (float : ℕ → ℤ → Float) (bits : ℕ) (v : ℤ) → fits bits v ≡ true → scaled bits (float bits v) ≡ v
+    → ComesBack float bits v
+comes_back float bits v fit is =
+    (ap (clipped bits) is ∙ clipped-fits bits v fit, ap (fits bits) is ∙ fit)
+
+pub floats_come_back : (bits : ℕ) (v : ℤ) → 0 < bits → bits ≤ 24 → fits bits v ≡ true → ComesBack float_of_int bits v
+floats_come_back bits v some few fit =
+    comes_back float_of_int bits v fit
+    (came_back binary32 bits (omega (arith, few)) (omega (arith, few)) (omega (arith, few))
+    (power32 (bits - 1) (omega (arith, few))) v fit)
+
+pub doubles_come_back : (bits : ℕ) (v : ℤ) → 0 < bits → bits ≤ 32 → fits bits v ≡ true → ComesBack double_of_int bits v
+doubles_come_back bits v some few fit =
+    comes_back double_of_int bits v fit
+    (came_back binary64 bits (omega (arith, few)) (omega (arith, few)) few
+    (power64 (bits - 1) (omega (arith, few))) v fit)

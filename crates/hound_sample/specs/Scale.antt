@@ -1,8 +1,9 @@
 -- Samples in another scale: integers of other bits, and floats whose full scale is 1.
-use Rattle.std.specs.Prelude.{ℕ, ℤ, Option, None, Some, pos, ◌-◌, ◌^◌, ◌+ℤ◌, ◌*ℤ◌, nat_lt, if◌then◌else◌, zero, suc, ◌+◌, ◌*◌, ◌/◌, ◌%◌, ◌-ℤ◌, List, [], ◌∷◌}
+use Rattle.std.specs.Prelude.{◌≡◌, ℕ, ℤ, IsTrue, Option, None, Some, pos, ◌-◌, ◌^◌, ◌+ℤ◌, ◌*ℤ◌, nat_lt, if◌then◌else◌, zero, suc, ◌+◌, ◌*◌, ◌/◌, ◌%◌, ◌-ℤ◌, List, [], ◌∷◌}
 use Rattle.std.specs.Float.{Float, float_to_signed, round_ties_even, binary64}
 use Rattle.std.specs.Int.{int_shr, saturate_to_bits, w64}
 use lib.Ieee.{binary32, div, mul, nan, of_int, add}
+use Rattle.hound_sample.specs.Container.{fits}
 
 -- the full scale of integers of so many bits: they are from minus this to one less
 abbrev pub full_scale : ℕ → ℤ
@@ -33,6 +34,10 @@ scaled bits x = float_to_signed w64 (round_ties_even binary64 (mul binary64 x (o
 -- the same, clipped
 abbrev pub scaled_to : ℕ → Float → ℤ
 scaled_to bits x = clipped bits (scaled bits x)
+
+-- an integer of so many bits is the same again after it was such a float, and isn't clipped
+abbrev pub ComesBack : (ℕ → ℤ → Float) → ℕ → ℤ → Type 0
+ComesBack float bits v = (scaled_to bits (float bits v) ≡ v) × IsTrue (fits bits (scaled bits (float bits v)))
 
 -- an integer of so many bits with others, not clipped: more bits are zeros below; of fewer it is the nearest, a half
 -- upwards

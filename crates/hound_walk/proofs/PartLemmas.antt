@@ -1,7 +1,7 @@
 -- Walks whose bytes are handed in, part after part.
 use Rattle.std.proofs.Common.{rules}
 use Rattle.std.proofs.lemmas.Grind.{common_steps}
-use Rattle.std.proofs.Common.{◌≡◌, ℕ, ◌+◌, ◌≤◌, ◌<◌, inl, inr, true, false, List, [], ◌++◌, length, take, drop, slice_range, refl, sym, ap, ◌∙◌, subst, arith, take-append-drop, take_at, drop_at, length-append, length-take, length-drop, length-take-le, append_assoc, le-ltb, Option, Some, None, Ok, Err}
+use Rattle.std.proofs.Common.{◌≡◌, ℕ, ◌+◌, ◌-◌, ◌*◌, ◌/◌, ◌≤◌, ◌<◌, Bool, cond, nat_lt, is_ok, zero, suc, ◌∷◌, inl, inr, true, false, List, [], ◌++◌, length, take, drop, slice_range, refl, sym, ap, ◌∙◌, subst, arith, take-append-drop, take_at, drop_at, length-append, length-take, length-drop, length-take-le, append_assoc, le-ltb, Option, Some, None, Ok, Err}
 use Rattle.std.proofs.lemmas.List.{drop-drop, drop-take}
 use Rattle.std.specs.Str.{bytes_eq}
 use Rattle.hound_number.specs.{Account, number}
@@ -9,14 +9,16 @@ use Rattle.hound_spec.specs.declared.spec.WavSpecEx.{WavSpecEx}
 use Rattle.hound_spec.specs.{greatest_u32, padded, riff_tag, wave_tag, fmt_tag, data_tag}
 use Rattle.hound_walk.specs.declared.cause.Cause.{Cause}
 use Rattle.hound_walk.specs.declared.cause.Cause.TheVariants.{Ended, Format}
-use Rattle.hound_walk.specs.declared.cause.Reason.TheVariants.{NoDataChunk}
-use Rattle.hound_walk.specs.Grammar.{fmt_len, fmt_of, Rejected, front_fault, content_fault, chunk_fault, fmt_fault, spec_after, cut_fault, Chunk, Head}
+use Rattle.hound_walk.specs.declared.cause.Reason.TheVariants.{FmtSize, NoDataChunk}
+use Rattle.hound_walk.specs.Grammar.{fmt_len, fmt_of, fmt_said, Rejected, front_fault, content_fault, chunk_fault, fmt_fault, spec_after, cut_fault, Chunk, Head}
 use Rattle.hound_walk.proofs.WalkLemmas.{walked_more, head_from, same_tag}
-use Rattle.std.proofs.lemmas.Bool.{cases_lt}
+use Rattle.std.proofs.lemmas.Bool.{cases_lt, false≢true}
 use Rattle.hound_walk.specs.Walking.{CountsFailed, Walked, Rejects}
 use Rattle.hound_walk.specs.declared.cause.HeadError.{HeadError}
 use Rattle.hound_walk.specs.declared.cause.HeadError.TheVariants.{Failed, Rejected as Caused}
-use Rattle.hound_walk.specs.Parts.{Reaches, IsAt, IsAfter}
+use Rattle.hound_walk.specs.Parts.{Reaches, IsAt, IsAfter, parts_within}
+use Rattle.hound_walk.specs.declared.parts.Part.{Part}
+use Rattle.hound_walk.specs.declared.parts.Part.TheVariants.{Header, Last}
 use Rattle.hound_walk.specs.declared.parts.HeadWalk.{HeadWalk}
 
 empty : (ys : List ℕ) → length ys ≡ 0 → ys ≡ []
@@ -314,3 +316,32 @@ last_is_there file bytes found c given is some =
 pub last_is_missing : (file bytes : List ℕ) (found : Option WavSpecEx) (c : ℕ) → Reaches file found c
     → bytes ≡ take 9 (drop (11 + c) file) → length bytes ≡ 0 → Rejected file Ended
 last_is_missing file bytes found c given is none = grind (arith, common_steps)
+
+-- a spec comes of some bytes
+some_fmt : (len : ℕ) (bytes : List ℕ) (spec : WavSpecEx) → fmt_of len bytes ≡ Ok spec → 0 < length bytes
+unfolding fmt_said
+some_fmt len [] spec is = absurd (by (nat_lt len 16) (ap (fmt_said len) (sym (none (fmt_len len))) ∙ is))
+  where
+    none : (n : ℕ) → take {A = ℕ} n [] ≡ []
+    none zero = refl
+    none (suc n) = refl
+
+    by : (b : Bool) → cond b (Err (Format FmtSize)) (Err Ended) ≡ Ok spec → ⊥
+    by true is = false≢true (ap is_ok is)
+    by false is = false≢true (ap is_ok is)
+some_fmt len (b ∷ bytes) spec is = omega arith
+
+-- after the content of a chunk whose header the file has, fewer parts of it are left
+fewer_after : (n c content read taken : ℕ) (part : Part) → IsAfter content read part → taken ≡ c + 8 + content
+    → 20 + c < n → parts_within n part taken < 2 * ((n - (12 + c)) / 8)
+fewer_after n c content read taken Header after is inside = omega (arith, is, inside)
+fewer_after n c content read taken Last after is inside = omega (arith, is, inside)
+fewer_after n c content read taken _ after is inside = absurd after
+
+-- so it is after a fmt chunk
+pub nearer_within : (n c len read : ℕ) (bytes : List ℕ) (spec : WavSpecEx) (next : HeadWalk)
+    → fmt_of len bytes ≡ Ok spec → IsAfter (padded len) read next.part → next.taken ≡ c + 8 + padded len
+    → length bytes ≤ n - (20 + c) → parts_within n next.part next.taken < 2 * ((n - (12 + c)) / 8)
+nearer_within n c len read bytes spec next is after taken few =
+    fewer_after n c (padded len) read next.taken next.part after taken
+    (omega (arith, few, some_fmt len bytes spec is))

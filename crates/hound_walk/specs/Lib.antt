@@ -4,7 +4,7 @@ unfoldable pub use Rattle.hound_walk.specs.Grammar.{by_tag, chunk_fault, content
 pub use Rattle.hound_walk.specs.Walking.{AreTaken, CountsFailed, Gives, IsSoundChunk, IsSoundOption, ReadsChunk, ReadsContent, ReadsFormat, RejectedAfter, Rejects, RejectsFront, ReportsFront, SaysContent, TakesAll, TakesFor, TakesFront, TakesLess, UnreadableAfter, Walked, Walks, chunk_taken, content_taken, content_takes, front_taken}
 pub use Rattle.hound_walk.specs.Rejections.{FailsAs, IsRejection, Names, OpensAs, ReportsError, reason_text}
 pub use Rattle.hound_walk.specs.Sources.{AnswersBytes, FindsData, Untouched, account_of, faults_after_walk, unread}
-pub use Rattle.hound_walk.specs.Parts.{IsAfter, IsAhead, IsAt, IsAtPart, IsNearer, IsSoundStep, LeadsTo, Reaches, part_bytes, part_length, part_start, parts_left}
+pub use Rattle.hound_walk.specs.Parts.{IsAfter, IsAhead, IsAt, IsAtPart, IsNearer, IsNearerWithin, IsSoundStep, LeadsTo, Reaches, part_bytes, part_length, part_start, parts_left, parts_within}
 pub mod Grammar
 pub mod Walking
 pub mod Rejections

@@ -1,5 +1,5 @@
 -- The walk over chunks (RIFF, "Chunks"), for a caller who hands in its bytes, part after part.
-use Rattle.std.specs.Prelude.{◌≡◌, ℕ, ◌+◌, ◌-◌, ◌*◌, ◌≤◌, ◌<◌, ◌⊎◌, List, ◌++◌, length, take, drop, Option, Result, Ok, Err, ⊤}
+use Rattle.std.specs.Prelude.{◌≡◌, ℕ, ◌+◌, ◌-◌, ◌*◌, ◌/◌, ◌≤◌, ◌<◌, ◌⊎◌, List, ◌++◌, length, take, drop, Option, Result, Ok, Err, ⊤}
 use Rattle.hound_number.specs.{number}
 use Rattle.hound_spec.specs.{greatest_u32, padded, fmt_tag}
 use Rattle.hound_spec.specs.declared.spec.WavSpecEx.{WavSpecEx}
@@ -74,6 +74,17 @@ parts_left Front c = 2 * 4294967296 + 2
 parts_left Header c = 2 * (4294967296 - c) + 1
 parts_left Last c = 2 * (4294967296 - c) + 1
 parts_left (Fmt len) c = 2 * (4294967296 - c)
+
+-- the same in a file of n bytes, each of whose chunks has a header of eight: a part for that, and one for a fmt chunk
+abbrev pub parts_within : ℕ → Part → ℕ → ℕ
+parts_within n Front c = 2 * ((n - 12) / 8) + 2
+parts_within n Header c = 2 * ((n - (12 + c)) / 8) + 1
+parts_within n Last c = 2 * ((n - (12 + c)) / 8) + 1
+parts_within n (Fmt len) c = 2 * ((n - (12 + c)) / 8)
+
+abbrev pub IsNearerWithin : ℕ → ℕ → Step → Type 0
+IsNearerWithin n left (Next next) = parts_within n next.part next.taken < left
+IsNearerWithin n left (Data head) = ⊤
 
 abbrev pub IsNearer : ℕ → Step → Type 0
 IsNearer left (Next next) = parts_left next.part next.taken < left

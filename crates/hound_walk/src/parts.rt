@@ -1,11 +1,11 @@
 // The walk to the data over bytes that a caller hands in, part after part. So nothing that is skipped has to be read,
 // and a caller in C can do the reading.
-ghost use Rattle.std.specs.Prelude.{◌≡◌, ℕ, ◌+◌, ◌≤◌, ◌/◌, ◌%◌, List, Option, None, Some, IfOk, IfErr, length, take, drop};
+ghost use Rattle.std.specs.Prelude.{◌≡◌, ℕ, ◌+◌, ◌-◌, ◌≤◌, ◌/◌, ◌%◌, List, Option, None, Some, IfOk, IfErr, length, take, drop};
 ghost use Rattle.hound_spec.specs.{greatest_u32, padded};
 ghost use Rattle.hound_spec.specs.declared.spec.WavSpecEx.{WavSpecEx};
 ghost use Rattle.hound_walk.specs.Grammar.{fmt_len, IsSoundSpec, Head, IsDataPlace, Readable, Rejected, Unreadable, data_fault};
 ghost use Rattle.hound_walk.specs.Walking.{IsSoundOption, Rejects, Walked};
-ghost use Rattle.hound_walk.specs.Parts.{IsAhead, IsAt, IsAtPart, IsAfter, IsNearer, IsSoundStep, LeadsTo, part_bytes, part_start, part_length, parts_left};
+ghost use Rattle.hound_walk.specs.Parts.{IsAhead, IsAt, IsAtPart, IsAfter, IsNearer, IsNearerWithin, IsSoundStep, LeadsTo, part_bytes, part_start, part_length, parts_left, parts_within};
 ghost use Rattle.hound_walk.specs.declared.parts.Part.TheVariants as kinds;
 
 use crate::cause::{Cause, HeadError, Reason};
@@ -86,6 +86,7 @@ fn take_front(bytes: &[u8]) -> Result<Step, Cause>
     ensures leads { (file : List ℕ) → (bytes.now ≡ take 12 file) → LeadsTo file result }
     ensures ahead { IfOk result (IsAhead 12) }
     ensures nearer { IfOk result (IsNearer (parts_left kinds.Front 0)) }
+    ensures within { (n : ℕ) → IfOk result (IsNearerWithin n (parts_within n kinds.Front 0)) }
     ensures sound { IfOk result IsSoundStep }
 {
     let mut window = Window { rest: bytes };
@@ -128,6 +129,8 @@ fn take_header(found: Option<WavSpecEx>, taken: u32, bytes: &[u8]) -> Result<Ste
         → (bytes.now ≡ take 8 (drop (12 + taken) file)) → LeadsTo file result }
     ensures ahead { IfOk result (IsAhead (20 + taken)) }
     ensures nearer { IfOk result (IsNearer (parts_left kinds.Header taken)) }
+    ensures within { (n : ℕ) → length bytes.now ≤ n - (12 + taken)
+        → IfOk result (IsNearerWithin n (parts_within n kinds.Header taken)) }
     ensures sound { IfOk result IsSoundStep }
 {
     if taken > u32::MAX - 8 {
@@ -158,6 +161,8 @@ fn take_fmt(taken: u32, chunk_len: u32, bytes: &[u8]) -> Result<Step, Cause>
         → (bytes.now ≡ take (fmt_len chunk_len) (drop (20 + taken) file)) → LeadsTo file result }
     ensures ahead { IfOk result (IsAhead (20 + taken + fmt_len chunk_len)) }
     ensures nearer { IfOk result (IsNearer (parts_left (kinds.Fmt chunk_len) taken)) }
+    ensures within { (n : ℕ) → length bytes.now ≤ n - (20 + taken)
+        → IfOk result (IsNearerWithin n (parts_within n (kinds.Fmt chunk_len) taken)) }
     ensures sound { IfOk result IsSoundStep }
 {
     if taken as u64 + 8 + chunk_len as u64 + chunk_len as u64 % 2 > u32::MAX as u64 {
@@ -176,13 +181,15 @@ fn take_fmt(taken: u32, chunk_len: u32, bytes: &[u8]) -> Result<Step, Cause>
 }
 
 /// Takes the bytes that a walk asks for, fewer only at the end of the file, and returns where they lead. At an error
-/// the walk has ended.
+/// the walk has ended. After each part fewer are left (`nearer`), and in a file of n bytes some n / 4 (`within`).
 #[inline(always)]
 pub fn take_part(walk: HeadWalk, bytes: &[u8]) -> Result<Step, Cause>
     requires sound { IsSoundOption walk.found }
     ensures leads { (file : List ℕ) → IsAt file walk → (bytes.now ≡ part_bytes walk file) → LeadsTo file result }
     ensures ahead { IfOk result (IsAhead (part_start walk.part walk.taken + part_length walk.part)) }
     ensures nearer { IfOk result (IsNearer (parts_left walk.part walk.taken)) }
+    ensures within { (n : ℕ) → length bytes.now ≤ n - part_start walk.part walk.taken
+        → IfOk result (IsNearerWithin n (parts_within n walk.part walk.taken)) }
     ensures sound { IfOk result IsSoundStep }
 {
     match walk.part {

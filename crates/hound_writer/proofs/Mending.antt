@@ -122,8 +122,8 @@ module _ (f : FoundFile) (r : Recorder) (old : Log) (cut : IsCutOff f r.data_len
           by (Err e) is reads = absurd (false≢true (ap is_ok is))
 
 -- what the first checkpoint leaves
-abbrev Mends : FoundFile → Recorder → Log → Log → Result (Unit {0}) IoFault → Type 0
-Mends f r old end result =
+abbrev LeavesCheckpoint : FoundFile → Recorder → Log → Log → Result (Unit {0}) IoFault → Type 0
+LeavesCheckpoint f r old end result =
     ((answer : Result (Unit {0}) Error) × (mark_of answer ≡ is_ok result)
     × LeavesWriter log_kind answer (writer_of f.spec_ex r old) (writer_of f.spec_ex r end))
     × (is_ok result ≡ true → (m : Log) → Goes {T = Unit {0}} {E = IoFault} (end_of r) (Ok tt) end.state m.state
@@ -134,7 +134,7 @@ Mends f r old end result =
 mended_at : (f : FoundFile) (old end : Log) (r : Recorder) (result : Result (Unit {0}) IoFault)
     → IsCutOff f r.data_length old.state → Performed (effects_of r) result old end → r.data_start ≡ f.data_start
     → AppendsRecorder f.spec_ex f.data_start r.data_length (Ok (recorder_of f.spec_ex f.data_start r.data_length))
-    → Mends f r old end result
+    → LeavesCheckpoint f r old end result
 mended_at f old end r result cut did start takes =
     let clean = is_sound r.health in
     let performed : Performed (if clean then checkpoint f.data_start r.data_length else Sync ∷ checkpoint f.data_start
@@ -163,6 +163,6 @@ begins_with f allowed overwrites r resumes = by_kept (kept_length f allowed over
 pub mended : (f : FoundFile) (allowed overwrites : Bool) (old end : Log) (r : Recorder)
     (result : Result (Unit {0}) IoFault)
     → Resumes f allowed overwrites (Ok r) → IsCutOff f r.data_length old.state → Performed (effects_of r) result old end
-    → Mends f r old end result
+    → LeavesCheckpoint f r old end result
 mended f allowed overwrites old end r result resumes cut did =
     let (start, takes) = begins_with f allowed overwrites r resumes in mended_at f old end r result cut did start takes

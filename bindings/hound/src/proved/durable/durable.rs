@@ -14,7 +14,11 @@ use std::io::ErrorKind;
 ///
 /// If the medium within `tells`, so does this one, with the same bytes. Its counts of faults and of flushed bytes are
 /// its own: a flush that comes before a step back counts as part of it. If that flush fails, the step is the one fault,
-/// and nothing has moved.
+/// and nothing has moved. Each of its faults is one of the medium within, too (`IsItsFault`), so it has counted no more
+/// than that one ([`a_durable_medium_ascends`](super::a_durable_medium_ascends)).
+///
+/// Its places go up to `i64::MAX`, as those of a file do. A call that leads past that, and one that writes more bytes
+/// than 64 bits can count, fails as a step before the first byte does.
 pub struct Durable<M: Medium> {
     inner: M,
     place: u64,
@@ -43,6 +47,17 @@ impl<M: Medium> Durable<M> {
         self.end = 0;
         Ok(())
     }
+
+    // The fault of a call that no place or count allows: that of a step before the first byte, which the medium within
+    // rejects.
+    fn fail(&mut self) -> io::Error {
+        let outcome = self.inner.shift(i64::MIN);
+        self.faults = self.faults.saturating_add(1);
+        match outcome {
+            Ok(()) => io::Error::from(ErrorKind::InvalidInput),
+            Err(error) => error,
+        }
+    }
 }
 
 // The place so many bytes after another one, or before it if negative, if there is one.
@@ -56,6 +71,9 @@ fn place_from(place: u64, by: i64) -> Option<u64> {
 
 impl<M: Medium> Placed for Durable<M> {
     fn go(&mut self, to: u64) -> io::Result<()> {
+        if to > i64::MAX as u64 {
+            return Err(self.fail());
+        }
         if to < self.end {
             self.sync()?;
         }
@@ -65,20 +83,20 @@ impl<M: Medium> Placed for Durable<M> {
     }
 
     fn shift(&mut self, by: i64) -> io::Result<()> {
-        let to = place_from(self.place, by);
-        let to = count_fault(to.ok_or(ErrorKind::InvalidInput), &mut self.faults)?;
-        self.go(to)
+        match place_from(self.place, by) {
+            Some(to) => self.go(to),
+            None => Err(self.fail()),
+        }
     }
 }
 
 impl<M: Medium> Medium for Durable<M> {
-    /// As that of the medium within. It is also an `Err` of kind `OutOfMemory` if the end of the bytes, or the count of
-    /// all bytes written, would pass `u64::MAX`.
+    /// As that of the medium within. It is also an `Err` if the end of the bytes would pass `i64::MAX`, or the count of
+    /// all bytes written `u64::MAX`.
     fn put(&mut self, bytes: &[u8]) -> io::Result<usize> {
-        let room = (u64::MAX - self.place).min(u64::MAX - self.taken);
+        let room = (i64::MAX as u64 - self.place).min(u64::MAX - self.taken);
         if room < bytes.len() as u64 {
-            let too_long = io::Error::from(ErrorKind::OutOfMemory);
-            return count_fault(Err(too_long), &mut self.faults);
+            return Err(self.fail());
         }
         let n = count_fault(self.inner.put(bytes), &mut self.faults)?;
         self.place += n as u64;
@@ -104,9 +122,8 @@ impl<M: Medium + Source> io::Read for Durable<M> {
 impl<M: Medium + Source> Source for Durable<M> {
     #[inline]
     fn get(&mut self, buf: &mut [u8]) -> io::Result<usize> {
-        if u64::MAX - self.place < buf.len() as u64 {
-            let too_far = io::Error::from(ErrorKind::InvalidInput);
-            return count_fault(Err(too_far), &mut self.faults);
+        if i64::MAX as u64 - self.place < buf.len() as u64 {
+            return Err(self.fail());
         }
         let n = count_fault(Source::get(&mut self.inner, buf), &mut self.faults)?;
         self.place += n as u64;

@@ -221,6 +221,10 @@ fn take_last(length: u64, task: Task, head: SeenHead, bytes: &[u8]) -> LookStep 
 
 // Takes a part of the header.
 fn take_header(length: u64, task: Task, walk: HeadWalk, bytes: &[u8]) -> Result<LookStep, Unrepairable> {
+    // No file of so many bytes has more there.
+    if bytes.len() as u64 > length.saturating_sub(walk.start()) {
+        return Err(Unrepairable::Head(Cause::Ended));
+    }
     match take_part(walk, bytes) {
         Ok(Step::Next(next)) => Ok(LookStep::Next(Stage::Head(next))),
         Ok(Step::Data(head)) => Ok(LookStep::Next(after_head(length, task, head))),

@@ -6,7 +6,7 @@ use crate::rattle::{f32_to_f64_with_nan, nearest_u32_to_f32, saturating_f64_to_i
 /// An integer of so many bits as a float whose full scale is 1: over `2^(bits - 1)`.
 ///
 /// It is the `f32` that is nearest to the quotient, of two the even one. Integers of up to 24 bits come back from
-/// `float_to_int` unchanged, as tests show.
+/// `float_to_int` unchanged ([`scaled_integers_come_back`](super::scaled_integers_come_back)).
 ///
 /// ```text
 /// let half = int_to_float(16384, 16); // 0.5

@@ -116,7 +116,7 @@ fn take_fmt(taken: u32, chunk_len: u32, bytes: &[u8]) -> Result<Step, Cause> {
 }
 
 /// Takes the bytes that a walk asks for, fewer only at the end of the file, and returns where they lead. At an error
-/// the walk has ended.
+/// the walk has ended. After each part fewer are left (`nearer`), and in a file of n bytes some n / 4 (`within`).
 #[inline(always)]
 pub fn take_part(walk: HeadWalk, bytes: &[u8]) -> Result<Step, Cause> {
     match walk.part {

@@ -2,7 +2,7 @@ use Rattle.std.proofs.Common.{◌≡◌, ◌+◌, Err, arith, subst}
 use Rattle.hound_spec.specs.declared.spec.WavSpecEx.{WavSpecEx}
 use Rattle.hound_spec.specs.{padded}
 use Rattle.hound_walk.specs.Grammar.{fmt_len, fmt_of}
-use Rattle.hound_walk.proofs.PartLemmas.{caused, rejects_at, reaches, passed_fmt, rejected_fmt, fmt_inside, chunk_inside}
+use Rattle.hound_walk.proofs.PartLemmas.{caused, rejects_at, reaches, passed_fmt, rejected_fmt, fmt_inside, chunk_inside, nearer_within}
 use Rattle.hound_walk.specs.Parts.{IsAfter}
 use Rattle.hound_walk.proofs.parts.take_fmt.Goals as goal
 
@@ -22,6 +22,10 @@ returns-in-Ok-clause-leads c = λ file found at is. let (w, limit, size, four, s
       none,
       fmt_inside file b t (fmt_len len) is enough (chunk_inside file size found t w four parts),
     ))
+
+pub returns-in-Ok-clause-within : goal.returns-in-Ok-clause-within
+returns-in-Ok-clause-within c = λ n few. nearer_within n c.args.taken c.args.chunk_len _ c.args.bytes.now
+    c.in-Ok.spec_ex c.skip.result c.in-Ok.ensures.gives.0 c.skip.ensures.part c.skip.ensures.taken few
 
 pub returns-in-Err-clause-leads : goal.returns-in-Err-clause-leads
 returns-in-Err-clause-leads c = λ file found at is. let (w, limit, size, four, says, parts) = at in
