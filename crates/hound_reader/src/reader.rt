@@ -16,8 +16,7 @@ use hound_sample::{Sample, SampleError};
 use hound_spec::{Error, Result, WavSpec, WavSpecEx};
 use hound_walk::{FileHead, HeadError, SourceReader, error_of, read_until_samples};
 use std::io::ErrorKind;
-use std::marker::{Brand, Model, PhantomData};
-use std::{io, result};
+use std::{io, marker, result};
 
 /// A reader of a file's samples.
 ///
@@ -41,7 +40,7 @@ pub struct WavReader<R> {
     pub(crate) bytes_read: u64,
 }
 
-impl<R> Model for WavReader<R> {
+impl<R> marker::Model for WavReader<R> {
     ghost use Rattle.hound_reader.specs.Reader.{ReaderState, HasSoundCounts};
 
     ghost Value = { ReaderState R };
@@ -165,7 +164,7 @@ impl<R: io::Read + Drop> WavReader<R> {
         WavSamples {
             spec_ex: self.spec_ex,
             reader: self,
-            phantom_sample: PhantomData,
+            phantom_sample: marker::PhantomData,
         }
     }
 
@@ -177,7 +176,7 @@ impl<R: io::Read + Drop> WavReader<R> {
         WavIntoSamples {
             spec_ex: self.spec_ex,
             reader: self,
-            phantom_sample: PhantomData,
+            phantom_sample: marker::PhantomData,
         }
     }
 
@@ -202,7 +201,7 @@ impl<R: io::Read + Drop> WavReader<R> {
     {
         let wanted = samples.len().min(self.samples_left() as usize);
         let mut answer = (0, Err(SampleError::Failed));
-        let (_, given) = read_many_since::<R, S, Brand>(
+        let (_, given) = read_many_since::<R, S, marker::Brand>(
             &mut self.reader,
             self.spec_ex,
             &mut samples[..wanted],
@@ -290,7 +289,11 @@ impl<R: io::Read + Drop> WavReader<R> {
             return None;
         }
         let mut sample = Err(SampleError::Failed);
-        let (_, given) = read_item_since::<R, S, Brand>(&mut self.reader, spec_ex, &mut sample);
+        let (_, given) = read_item_since::<R, S, marker::Brand>(
+            &mut self.reader,
+            spec_ex,
+            &mut sample,
+        );
         let width = spec_ex.bytes_per_sample;
         self.samples_read += 1;
         match sample {

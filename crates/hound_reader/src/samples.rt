@@ -33,7 +33,7 @@ impl<R: io::Read + Drop, S: Sample> Iterator for WavSamples<'_, R, S> {
 
     ghost remaining = { λ s. at_most (samples_left (lent_reader s)) };
 
-    #[inline]
+    #[inline(always)]
     fn next(&mut self) -> Option<Result<S>> {
         let no_sample = match self.reader.next_item(self.spec_ex)? {
             Ok(sample) => return Some(Ok(sample)),
@@ -77,7 +77,7 @@ impl<R: io::Read + Drop, S: Sample> Iterator for WavIntoSamples<R, S> {
 
     ghost remaining = { λ s. at_most (samples_left (taken_reader s)) };
 
-    #[inline]
+    #[inline(always)]
     fn next(&mut self) -> Option<Result<S>> {
         let no_sample = match self.reader.next_item(self.spec_ex)? {
             Ok(sample) => return Some(Ok(sample)),

@@ -22,7 +22,7 @@ pub struct WavSamples<'wr, R, S> {
 impl<R: io::Read, S: Sample> Iterator for WavSamples<'_, R, S> {
     type Item = Result<S>;
 
-    #[inline]
+    #[inline(always)]
     fn next(&mut self) -> Option<Result<S>> {
         let no_sample = match self.reader.next_item(self.spec_ex)? {
             Ok(sample) => return Some(Ok(sample)),
@@ -53,7 +53,7 @@ pub struct WavIntoSamples<R, S> {
 impl<R: io::Read, S: Sample> Iterator for WavIntoSamples<R, S> {
     type Item = Result<S>;
 
-    #[inline]
+    #[inline(always)]
     fn next(&mut self) -> Option<Result<S>> {
         let no_sample = match self.reader.next_item(self.spec_ex)? {
             Ok(sample) => return Some(Ok(sample)),
