@@ -3,3 +3,4 @@ pub use Rattle.hound_durable.specs.Losses.{Ascends, IsBelow, IsItsFault, IsLastB
 pub use Rattle.hound_durable.specs.Durables.{Around, synced, within}
 pub mod Losses
 pub mod Durables
+pub mod Targets

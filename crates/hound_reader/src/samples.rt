@@ -5,7 +5,7 @@ ghost use Rattle.std.specs.Iterator.SizeHint.{IsWithinCount};
 ghost use Rattle.hound_reader.specs.Reader.{samples_left};
 
 use crate::reader::WavReader;
-use hound_sample::{Sample, error_of_sample};
+use hound_sample::Sample;
 use hound_spec::{Result, WavSpecEx};
 use std::io;
 use std::marker::PhantomData;
@@ -39,7 +39,7 @@ impl<R: io::Read + Drop, S: Sample> Iterator for WavSamples<'_, R, S> {
             Ok(sample) => return Some(Ok(sample)),
             Err(no_sample) => no_sample,
         };
-        Some(Err(error_of_sample(no_sample, self.reader.last_fault())))
+        Some(Err(self.reader.error_for(no_sample)))
     }
 
     fn size_hint(&self) -> (usize, Option<usize>)
@@ -83,7 +83,7 @@ impl<R: io::Read + Drop, S: Sample> Iterator for WavIntoSamples<R, S> {
             Ok(sample) => return Some(Ok(sample)),
             Err(no_sample) => no_sample,
         };
-        Some(Err(error_of_sample(no_sample, self.reader.last_fault())))
+        Some(Err(self.reader.error_for(no_sample)))
     }
 
     fn size_hint(&self) -> (usize, Option<usize>)
