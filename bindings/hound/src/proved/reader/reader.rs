@@ -4,7 +4,7 @@
 use crate::proved::reader::item::{SavingReader, read_item_since, read_many_since, result_of, taken_without};
 use crate::proved::reader::samples::{WavIntoSamples, WavSamples};
 use crate::proved::medium::{Placed, Source};
-use crate::proved::sample::{Sample, SampleError};
+use crate::proved::sample::{Sample, SampleError, error_of_sample};
 use crate::proved::spec::{Error, Result, WavSpec, WavSpecEx};
 use crate::proved::walk::{FileHead, HeadError, SourceReader, error_of, read_until_samples};
 use std::io::ErrorKind;
@@ -209,10 +209,11 @@ impl<R: io::Read> WavReader<R> {
         }
     }
 
-    /// The fault that was saved last.
-    #[inline(always)]
-    pub(crate) fn last_fault(&mut self) -> &mut io::Error {
-        &mut self.reader.fault
+    /// The error of an item without a sample: for a read that failed, the fault that was saved last.
+    #[cold]
+    #[inline(never)]
+    pub(crate) fn error_for(&mut self, no_sample: SampleError) -> Error {
+        error_of_sample(no_sample, &mut self.reader.fault)
     }
 }
 

@@ -2,7 +2,7 @@
 // The iterators over samples.
 
 use crate::proved::reader::reader::WavReader;
-use crate::proved::sample::{Sample, error_of_sample};
+use crate::proved::sample::Sample;
 use crate::proved::spec::{Result, WavSpecEx};
 use std::io;
 use std::marker::PhantomData;
@@ -28,7 +28,7 @@ impl<R: io::Read, S: Sample> Iterator for WavSamples<'_, R, S> {
             Ok(sample) => return Some(Ok(sample)),
             Err(no_sample) => no_sample,
         };
-        Some(Err(error_of_sample(no_sample, self.reader.last_fault())))
+        Some(Err(self.reader.error_for(no_sample)))
     }
 
     fn size_hint(&self) -> (usize, Option<usize>) {
@@ -59,7 +59,7 @@ impl<R: io::Read, S: Sample> Iterator for WavIntoSamples<R, S> {
             Ok(sample) => return Some(Ok(sample)),
             Err(no_sample) => no_sample,
         };
-        Some(Err(error_of_sample(no_sample, self.reader.last_fault())))
+        Some(Err(self.reader.error_for(no_sample)))
     }
 
     fn size_hint(&self) -> (usize, Option<usize>) {
