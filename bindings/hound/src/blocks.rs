@@ -74,8 +74,7 @@ impl<W: Write + Seek> WriteSamples for WavWriter<W> {
         let (bits, mut clipped) = (self.spec().bits_per_sample, 0);
         if self.spec().sample_format == SampleFormat::Int {
             let integers = samples.iter().map(|sample| double_to_int((*sample).into(), bits, &mut clipped));
-            let integers: Vec<i32> = integers.collect();
-            self.write_samples(&integers)?;
+            self.write_samples(&integers.collect::<Vec<i32>>())?;
         } else {
             let floats: Option<Vec<f32>> = samples.iter().map(|sample| sample.__hound_to_float()).collect();
             self.write_samples(&floats.ok_or(Error::TooWide)?)?;

@@ -4,9 +4,11 @@ pub type Error = ErrorKind;
 
 #[derive(Debug)]
 pub enum ErrorKind {
+    InvalidData,
     InvalidInput,
     Other,
     OutOfMemory,
+    UnexpectedEof,
     WriteZero,
 }
 

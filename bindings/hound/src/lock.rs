@@ -28,9 +28,8 @@ fn is_at(_: &fs::File, _: &path::Path) -> io::Result<bool> {
     Ok(true)
 }
 
-/// Locks an open file until it is closed, in ten attempts 2 ms apart (own): where another program has locked it, or
-/// this one has opened and locked it before, the error is `WouldBlock`; on Windows also where it has locked the same
-/// `File`. A file system without locks is no error, and neither is another system than Unix and Windows.
+/// Locks an open file until it is closed, in ten attempts 2 ms apart (own): where it is locked already, the error is
+/// `WouldBlock`. See the [page of the crate](crate#recordings-that-survive-a-loss-of-power).
 pub fn lock(file: &fs::File) -> io::Result<()> {
     // A program that follows a recording locks it for a moment, to see whether it is still recorded.
     for attempts_left in (0..10).rev() {
@@ -63,18 +62,13 @@ fn is_locked_by_another(file: &fs::File) -> bool {
 #[allow(unsafe_code)]
 fn is_locked_by_another(file: &fs::File) -> bool {
     use std::os::windows::io::{AsRawHandle, RawHandle};
-    #[repr(C)]
-    struct Overlapped {
-        unused: [usize; 2],
-        place: u64,
-        event: usize,
-    }
     extern "system" {
-        fn LockFileEx(file: RawHandle, flags: u32, zero: u32, low: u32, high: u32, place: &mut Overlapped) -> i32;
+        fn LockFileEx(file: RawHandle, flags: u32, zero: u32, low: u32, high: u32, place: &mut [u64; 4]) -> i32;
     }
     const EXCLUSIVE_WITHOUT_WAITING: u32 = 3;
     const IS_LOCKED: i32 = 33;
-    let mut place = Overlapped { unused: [0; 2], place: 1 << 62, event: 0 };
+    let mut place = [0; 4];
+    place[std::mem::size_of::<usize>() / 4] = 1 << 62; // After two words, and before another one.
     // SAFETY: the file is open, and without waiting nothing of the call is kept.
     let result = unsafe { LockFileEx(file.as_raw_handle(), EXCLUSIVE_WITHOUT_WAITING, 0, 1, 0, &mut place) };
     result == 0 && io::Error::last_os_error().raw_os_error() == Some(IS_LOCKED)

@@ -10,12 +10,3 @@ pub use crate::proved::writer::{
     beginning_effect, part_from, Action, BeginningEffect, Effect, FoundFile, Health, Phase, Recorder, RecorderError,
     Report,
 };
-
-impl Damage {
-    /// The file in which this was found, which has so many bytes, as [`Recorder::resume`] takes it.
-    pub fn in_file(&self, length: u64) -> FoundFile {
-        let (SeenHead { data_start, data_length, .. }, found) = (self.head, self.repair());
-        let (spec_ex, frames, state) = (found.spec_ex, found.frames, found.state);
-        FoundFile { spec_ex, data_start, data_length, length, frames, state }
-    }
-}

@@ -1,5 +1,4 @@
-//! Recordings that go on in a next file (own), since a file has less than 4 GiB: `take.wav`, `take-002.wav`,
-//! `take-003.wav` and so on, each of which is a whole file.
+//! Recordings that go on in a next file (own), since a file has less than 4 GiB.
 use crate::blocks::WriteSamples;
 use crate::machines::Recorder;
 use crate::{Error, Result, Sample, WavSpec, WavSpecEx, WavWriter};
@@ -9,12 +8,8 @@ use std::{env, fs, io, mem};
 type Writer = WavWriter<io::BufWriter<fs::File>>;
 type Begin = fn(&Path, WavSpec) -> Result<Writer>;
 
-/// Writes a recording in parts, by blocks of whole frames.
-///
-/// A block that has no room in a file goes whole into the next one, which is begun before the file is flushed and
-/// ended; one of more frames than a file may have is written as several. A next file that exists is an error, and never
-/// touched. After an error the file is as a [`WavWriter`] leaves it, a next one that was begun is removed, and the
-/// recording can go on; [`len`](PartsWriter::len) says whether the first of several blocks are written.
+/// Writes a recording in parts, by blocks of whole frames. The [page of the crate](crate#recordings-in-parts) says when
+/// a next file is begun, and what an error leaves.
 pub struct PartsWriter {
     writer: Writer,
     first: PathBuf,
@@ -25,8 +20,7 @@ pub struct PartsWriter {
 }
 
 impl PartsWriter {
-    /// Creates the first file as [`WavWriter::create`] does, over one that there was; a second one may not be there. A
-    /// file has at most `split` frames, and never more than have room.
+    /// Creates the first file as [`WavWriter::create`] does. A file has at most `split` frames.
     ///
     /// # Panics
     ///
@@ -46,8 +40,7 @@ impl PartsWriter {
         for number in [2, 9999] {
             match fs::symlink_metadata(part_name(&first, number)) {
                 Err(error) if error.kind() == io::ErrorKind::NotFound => {}
-                Err(error) => return Err(error.into()), // Such as of a name that is too long.
-                Ok(_) => return Err(io::Error::from(io::ErrorKind::AlreadyExists).into()),
+                found => return Err(found.err().unwrap_or(io::ErrorKind::AlreadyExists.into()).into()),
             }
         }
         Ok(PartsWriter { writer: begin(&first, spec)?, first, number: 1, split, begin, samples_before: 0 })

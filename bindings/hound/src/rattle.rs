@@ -11,13 +11,12 @@ pub fn too_long() -> Error {
 /// A type that contracts alone look at.
 pub struct Brand;
 
-/// `f64::round_ties_even`, of Rust 1.77. What `f64::abs` and `copysign` do is in `std` alone.
+/// `f64::round_ties_even`, of Rust 1.77, but that any zero may come for another one.
 pub fn round_ties_even(number: f64) -> f64 {
-    const SIGN: u64 = 1 << 63;
-    let (exact, size) = (4503599627370496.0, f64::from_bits(number.to_bits() & !SIGN));
-    if size < exact {
-        // From 2^52 on each float is an integer.
-        f64::from_bits(((size + exact) - exact).to_bits() | number.to_bits() & SIGN)
+    // From 2^52 on each float is an integer.
+    let exact = if number < 0.0 { -4503599627370496.0 } else { 4503599627370496.0 };
+    if number / exact < 1.0 {
+        (number + exact) - exact
     } else {
         number
     }

@@ -1,6 +1,6 @@
 use crate::medium::{Input, Opened, Origin};
 use crate::proved::walk::{self, error_of, read_until_samples};
-use crate::sample::Reader;
+use crate::sample::{Reader, MOST_AHEAD};
 use crate::{Result, Sample, WavSpec, WavSpecEx};
 use std::io::{self, Read};
 use std::{fs, marker, panic, path};
@@ -66,7 +66,10 @@ impl<R: Read> WavReader<R> {
     /// The reader, after the last sample that was asked for.
     pub fn into_inner(mut self) -> R {
         self.begin(0);
-        self.proved.into_inner().0.into_inner()
+        match self.proved.into_inner().0 {
+            Origin::Reader(reader) => reader,
+            Origin::Opened(opened, reader_of) => reader_of(opened.file),
+        }
     }
 
     /// Goes to a frame, counted from 0. After the last one no sample is left.
@@ -81,16 +84,15 @@ impl<R: Read> WavReader<R> {
     /// Begins with samples of a type, by its number. Others that were read ahead weren't read then.
     #[inline(always)]
     pub(crate) fn begin(&mut self, sample_type: u8) {
-        let width = self.proved.spec_ex.bytes_per_sample;
-        if let Some(opened) = self.proved.reader.reader.0.opened_with_others(sample_type) {
-            let count = opened.begin(sample_type, width);
+        let width = u64::from(self.proved.spec_ex.bytes_per_sample);
+        if let Some(opened) = self.proved.reader.reader.0.opened().filter(|opened| opened.sample_type != sample_type) {
+            let count = opened.ahead.len() as u64;
+            opened.file.seek_relative(-((count * width) as i64)).expect("the buffer holds them");
+            opened.ahead.clear();
+            (opened.sample_type, opened.wanted) = (sample_type, 0);
             self.proved.samples_read -= count;
-            self.proved.bytes_read -= count * u64::from(width);
+            self.proved.bytes_read -= count * width;
         }
-    }
-
-    fn samples_left(&self) -> usize {
-        self.proved.samples_left() as usize + self.proved.reader.reader.0.ahead()
     }
 }
 
@@ -98,7 +100,10 @@ impl WavReader<io::BufReader<fs::File>> {
     /// Opens a file, and reads its header.
     pub fn open<P: AsRef<path::Path>>(filename: P) -> Result<WavReader<io::BufReader<fs::File>>> {
         let file = io::BufReader::new(fs::File::open(filename)?);
-        WavReader::over(file, |file| Origin::Opened(Box::new(Opened::new(file)), |file| file))
+        WavReader::over(file, |file| {
+            let ahead = Vec::with_capacity(MOST_AHEAD);
+            Origin::Opened(Box::new(Opened { file, ahead, sample_type: 0, wanted: 0 }), |file| file)
+        })
     }
 }
 
@@ -127,7 +132,11 @@ macro_rules! samples {
             }
 
             fn size_hint(&self) -> (usize, Option<usize>) {
-                let left = self.reader.samples_left();
+                let ahead = match &self.reader.proved.reader.reader.0 {
+                    Origin::Opened(opened, _) => opened.ahead.len(),
+                    Origin::Reader(_) => 0,
+                };
+                let left = self.reader.proved.samples_left() as usize + ahead;
                 (left, Some(left))
             }
         }

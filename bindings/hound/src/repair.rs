@@ -1,5 +1,5 @@
 use crate::lock::open_locked;
-use crate::machines::{FoundFile, RepairState, Task};
+use crate::machines::{self, FoundFile, RepairState, Task};
 use crate::medium::{Input, Output, SyncBy};
 use crate::proved::repair::mend::{look_by_parts, perform_all};
 use crate::{Error, Result, WavSpecEx};
@@ -21,26 +21,15 @@ pub struct Repair {
     pub counted: u32,
 }
 
-/// Gives a file whose recording was cut off the sizes of the whole frames that it holds, and a pad byte
-/// where one is missing (own). A file that is whole stays as it is, and so does one whose header counts all its frames
-/// already ([`RepairState::AllCounted`]). So does one in which chunks or a tag follow the data, also where its header
-/// counts too few samples: of that one [`repair_file_to_end`] is the repair.
-///
-/// Only a few parts of the file are read, and permission to write it is needed only where it is written. Where another
-/// program repairs it, or records to it durably, the error is `WouldBlock`. Where another file was renamed to the path
-/// before this one was locked, that one is repaired (on Unix).
-///
-/// It is synced as it was found; then the RIFF size, the data length and the pad byte are written in this order, each
-/// with a sync. So after a kill or an error, also an `IoError` between these steps, the header counts only samples that
-/// are there, and a second call finishes the repair: until the data length is right, the file is found to be cut off.
-/// Only a pad byte may then be missing, and the second call reports that all frames are counted.
+/// Gives a file whose recording was cut off the sizes of the whole frames that it holds, and a pad byte where one is
+/// missing (own), unless chunks or a tag follow the data. What it does to a file, and what an error leaves, is on the
+/// [page of the crate](crate#recordings-that-survive-a-loss-of-power).
 pub fn repair_file<P: AsRef<path::Path>>(filename: P) -> Result<Repair> {
     repair_by(Task::Repair, filename.as_ref())
 }
 
-/// The same, but all that follows the header of the data is taken for samples, also what looks like chunks or a
-/// tag (own): for a file that [`repair_file`] reports as `HasChunksAfterData`, and whose header counts too few. The
-/// chunks are samples then, and sound at the end as a click, so copy the file first.
+/// The same, but all that follows the header of the data is taken for samples (own): for a file that [`repair_file`]
+/// reports as `HasChunksAfterData`, and whose header counts too few. Copy it first.
 pub fn repair_file_to_end<P: AsRef<path::Path>>(filename: P) -> Result<Repair> {
     repair_by(Task::RepairToEnd, filename.as_ref())
 }
@@ -64,15 +53,9 @@ fn repair_in(task: Task, mut file: &fs::File) -> Result<Repair> {
     let damage = look_by_parts(&mut Input(file), task)?;
     let disk = (file.try_clone()?, fs::File::sync_all as SyncBy);
     perform_all(&mut Output::of_file(file, Some(disk)), task, damage)?;
-    let (head, found) = (damage.head, damage.repair());
-    let frame = u32::from(head.spec_ex.spec.channels) * u32::from(head.spec_ex.bytes_per_sample);
-    Ok(Repair {
-        spec_ex: found.spec_ex,
-        frames: found.frames,
-        left_over: found.left_over,
-        state: found.state,
-        counted: head.data_length / frame,
-    })
+    let machines::Repair { spec_ex, frames, left_over, state } = damage.repair();
+    let frame = u32::from(spec_ex.spec.channels) * u32::from(spec_ex.bytes_per_sample);
+    Ok(Repair { spec_ex, frames, left_over, state, counted: damage.head.data_length / frame })
 }
 
 /// A file that is to be appended to, as a look finds it.

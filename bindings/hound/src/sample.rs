@@ -1,13 +1,18 @@
-use crate::medium::{Input, Opened, Origin, Target};
-use crate::proved::reader::WavReader;
+use crate::medium::{Input, Origin, Output};
+use crate::proved::durable::Target;
+use crate::proved::reader::{WavReader, WavSamples};
 use crate::proved::sample::{error_of_sample, Sample as Proved, SampleError};
 use crate::proved::writer::WavWriter;
 use crate::{Error, Result, SampleFormat, WavSpecEx};
 use std::io::{self, Read, Seek, Write};
+use std::marker::PhantomData;
+
+/// At most so many samples are read ahead.
+pub(crate) const MOST_AHEAD: usize = 127;
 
 /// The proved reader and writer, over those of the user's.
 pub type Reader<R> = WavReader<Input<Origin<R>>>;
-pub type Writer<W> = WavWriter<Target<W>>;
+pub type Writer<W> = WavWriter<Target<Output<W>>>;
 
 /// A type of samples: `i8`, `i16`, `i32`, `f32`, or one of your own.
 pub trait Sample: Sized {
@@ -32,7 +37,7 @@ pub trait Sample: Sized {
     #[doc(hidden)]
     #[inline]
     fn __hound_write<W: Write + Seek>(self, writer: &mut Writer<W>) -> Result<()> {
-        put(writer, Container::of(self, writer.spec_ex())?)
+        put(writer, container_of(self, writer.spec_ex())?)
     }
 
     #[doc(hidden)]
@@ -40,9 +45,8 @@ pub trait Sample: Sized {
     where
         Self: Copy,
     {
-        let containers = samples.iter().map(|sample| Container::of(*sample, writer.spec_ex()));
-        let containers = containers.collect::<Result<Vec<_>>>()?;
-        put_all(writer, &containers)
+        let containers = samples.iter().map(|sample| container_of(*sample, writer.spec_ex()));
+        put_all(writer, &containers.collect::<Result<Vec<_>>>()?)
     }
 
     #[doc(hidden)]
@@ -52,9 +56,10 @@ pub trait Sample: Sized {
             return None;
         }
         reader.samples_read += 1;
-        let mut counting = Counting { reader: &mut reader.reader.reader, given: &mut reader.bytes_read };
-        let WavSpecEx { spec, bytes_per_sample } = spec_ex;
-        Some(Self::read(&mut counting, spec.sample_format, bytes_per_sample, spec.bits_per_sample))
+        let (WavSpecEx { spec, bytes_per_sample }, mut rest) = (spec_ex, reader.reader.reader.by_ref().take(u64::MAX));
+        let sample = Self::read(&mut rest, spec.sample_format, bytes_per_sample, spec.bits_per_sample);
+        reader.bytes_read += u64::MAX - rest.limit();
+        Some(sample)
     }
 
     #[doc(hidden)]
@@ -90,40 +95,26 @@ fn rejected<W: Write + Seek>(writer: &mut Writer<W>, reason: SampleError) -> Err
 
 #[inline(always)]
 fn read_one<R: Read, S: Proved>(reader: &mut Reader<R>, spec_ex: WavSpecEx) -> Option<Result<S>> {
-    match reader.next_item(spec_ex)? {
-        Ok(sample) => Some(Ok(sample)),
-        Err(reason) => Some(Err(unread(reader, reason))),
-    }
+    WavSamples { reader, spec_ex, phantom_sample: PhantomData }.next()
 }
 
-#[cold]
-#[inline(never)]
-fn unread<R: Read>(reader: &mut Reader<R>, reason: SampleError) -> Error {
-    error_of_sample(reason, reader.last_fault())
-}
-
-// Reads a sample, and those after it which the buffer of the file holds. The one error is that of the type, before all.
+// Reads a sample, and then those after it which the buffer of the file holds: these aren't rejected, and have no fault.
 #[inline(never)]
 fn read_ahead<R: Read, S: Proved + Copy + Default>(
     reader: &mut Reader<R>,
     bits_of: impl Fn(S) -> u32,
 ) -> Option<Result<S>> {
-    let spec_ex = reader.spec_ex();
-    let left = reader.samples_left() as usize;
-    let count = reader.reader.reader.0.opened().map_or(0, |opened| opened.count(spec_ex.bytes_per_sample));
-    let count = count.min(left);
-    if count < 2 {
-        return read_one(reader, spec_ex);
+    let sample = read_one(reader, reader.spec_ex)?;
+    let (width, left) = (usize::from(reader.spec_ex.bytes_per_sample), reader.samples_left() as usize);
+    if let (Ok(_), Some(opened)) = (&sample, reader.reader.reader.0.opened()) {
+        let (mut samples, held) = ([S::default(); MOST_AHEAD], opened.file.buffer().len() / width);
+        let wanted = opened.wanted.min(held).min(left);
+        opened.wanted = (2 * opened.wanted + 1).min(MOST_AHEAD);
+        let (count, _) = reader.read_samples(&mut samples[..wanted]);
+        let ahead = samples[..count].iter().rev().map(|sample| bits_of(*sample));
+        reader.reader.reader.0.opened()?.ahead.extend(ahead);
     }
-    let mut samples = [S::default(); Opened::MOST];
-    let (_, result) = reader.read_samples(&mut samples[..count]);
-    let opened = reader.reader.reader.0.opened()?;
-    if let Err(error) = result {
-        opened.reject();
-        return Some(Err(error));
-    }
-    opened.put(samples[1..count].iter().map(|sample| bits_of(*sample)));
-    Some(Ok(samples[0]))
+    Some(sample)
 }
 
 macro_rules! sample {
@@ -131,18 +122,15 @@ macro_rules! sample {
         impl Sample for $type {
             const __HOUND_TYPE: u8 = $number;
 
-            #[inline]
             fn write<W: io::Write>(self, writer: &mut W, bits: u16) -> Result<()> {
                 Sample::write_padded(self, writer, bits, bits / 8)
             }
 
-            #[inline]
             fn write_padded<W: io::Write>(self, writer: &mut W, bits: u16, byte_width: u16) -> Result<()> {
                 let container = self.encode(bits, byte_width)?;
                 Ok(writer.write_all(&container[..usize::from(byte_width)])?)
             }
 
-            #[inline]
             fn read<R: io::Read>(reader: &mut R, format: SampleFormat, bytes: u16, bits: u16) -> Result<$type> {
                 <$type as Proved>::read(&mut Input(reader), format, bytes, bits)
             }
@@ -164,7 +152,7 @@ macro_rules! sample {
 
             #[inline(always)]
             fn __hound_read<R: Read>(reader: &mut Reader<R>, spec_ex: WavSpecEx) -> Option<Result<$type>> {
-                match reader.reader.reader.0.opened().map(Opened::next) {
+                match reader.reader.reader.0.opened().map(|opened| opened.ahead.pop()) {
                     Some(Some(bits)) => Some(Ok($of_bits(bits))),
                     Some(None) => read_ahead(reader, $bits_of),
                     None => read_one(reader, spec_ex),
@@ -182,42 +170,20 @@ sample!(i16, 2, |sample| sample as u32, |bits| bits as i16, |sample| sample);
 sample!(i32, 3, |sample| sample as u32, |bits| bits as i32, |sample| sample as i16);
 sample!(f32, 4, f32::to_bits, f32::from_bits, |_| panic!("a float has no 16 bits"));
 
-/// What a type of the user's own writes: one container, or it is rejected.
+/// What a type of the user's own writes: its bytes as a number, the low one first.
 #[derive(Clone, Copy)]
-struct Container {
-    number: u64, // Its bytes, the low one first.
-    length: u32,
-}
+struct Container(u64);
 
-impl Container {
-    #[inline]
-    fn of<S: Sample>(sample: S, spec_ex: WavSpecEx) -> Result<Container> {
-        let mut container = Container { number: 0, length: 0 };
-        sample.write_padded(&mut container, spec_ex.spec.bits_per_sample, spec_ex.bytes_per_sample)?;
-        if container.length != u32::from(spec_ex.bytes_per_sample) {
-            return Err(Error::Unsupported);
-        }
-        Ok(container)
-    }
-}
-
-impl io::Write for Container {
-    #[inline]
-    fn write(&mut self, bytes: &[u8]) -> io::Result<usize> {
-        for byte in bytes {
-            self.number |= u64::from(*byte) << (8 * self.length.min(4));
-            self.length += 1;
-        }
-        Ok(bytes.len())
-    }
-
-    #[inline]
-    fn write_all(&mut self, bytes: &[u8]) -> io::Result<()> {
-        self.write(bytes).map(drop)
-    }
-
-    fn flush(&mut self) -> io::Result<()> {
-        Ok(())
+// One container, or the sample is rejected. There is room for a byte more.
+#[inline]
+fn container_of<S: Sample>(sample: S, spec_ex: WavSpecEx) -> Result<Container> {
+    let (mut bytes, width) = ([0; 8], usize::from(spec_ex.bytes_per_sample));
+    let mut rest = &mut bytes[..=width];
+    let written = sample.write_padded(&mut rest, spec_ex.spec.bits_per_sample, spec_ex.bytes_per_sample);
+    match rest.len() {
+        1 => written.map(|()| Container(u64::from_le_bytes(bytes))),
+        0 => Err(Error::Unsupported),
+        _ => written.and(Err(Error::Unsupported)),
     }
 }
 
@@ -232,21 +198,6 @@ impl Proved for Container {
 
     #[inline(always)]
     fn encode(self, _: u16, _: u16) -> Result<[u8; 4]> {
-        Ok((self.number as u32).to_le_bytes())
-    }
-}
-
-/// What a type of the user's own reads from.
-struct Counting<'r, R> {
-    reader: &'r mut Input<Origin<R>>,
-    given: &'r mut u64,
-}
-
-impl<R: io::Read> io::Read for Counting<'_, R> {
-    #[inline]
-    fn read(&mut self, bytes: &mut [u8]) -> io::Result<usize> {
-        let count = self.reader.read(bytes)?;
-        *self.given += count as u64;
-        Ok(count)
+        Ok((self.0 as u32).to_le_bytes())
     }
 }

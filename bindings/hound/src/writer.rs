@@ -1,6 +1,6 @@
 use crate::lock::open_locked;
-use crate::medium::{Input, Output, SyncBy, Target};
-use crate::proved::durable::Durable;
+use crate::medium::{Input, Output, SyncBy};
+use crate::proved::durable::{Durable, Target};
 use crate::proved::spec::header_of;
 use crate::proved::walk::{error_of, read_until_data, FileHead};
 use crate::proved::writer::append::append_at;
@@ -53,33 +53,28 @@ impl<W: Write + Seek> WavWriter<W> {
         WavWriter::over(Writer::try_new(Target::Plain(Output::new(writer)), spec_ex))
     }
 
-    fn over(begun: result::Result<Writer<W>, (Target<W>, Error)>) -> Result<WavWriter<W>> {
-        match begun {
-            Ok(proved) => Ok(WavWriter { proved, batch: Vec::new(), finalized: false }),
-            Err((mut target, error)) => {
-                target.resume();
-                Err(error)
-            }
-        }
+    fn over(begun: result::Result<Writer<W>, (Target<Output<W>>, Error)>) -> Result<WavWriter<W>> {
+        let proved = begun.map_err(|(mut target, error)| {
+            target.resume();
+            error
+        })?;
+        Ok(WavWriter { proved, batch: Vec::new(), finalized: false })
     }
 
     // A file that lacks samples which its header counts isn't appended to, where its length is known.
-    fn after(target: Target<W>, head: FileHead, length: Option<u64>) -> Result<WavWriter<W>> {
-        let counted = head.data_start + u64::from(head.data_length);
-        if length.map_or(false, |length| length < counted) {
-            return Err(RecorderError::Truncated.into());
+    fn after(target: Target<Output<W>>, head: FileHead, length: Option<u64>) -> Result<WavWriter<W>> {
+        let end = head.data_start + u64::from(head.data_length);
+        match length {
+            Some(length) if length < end => Err(RecorderError::Truncated.into()),
+            _ => WavWriter::over(append_at(target, head)),
         }
-        WavWriter::over(append_at(target, head))
     }
 
-    /// Writes a sample, which is buffered.
+    /// Writes a sample, which is buffered; an error rejects it alone.
     ///
     /// One that has more bits than the file is `TooWide`, and a float for integers of fewer than 32 bits is
     /// `Unsupported`. Nothing is converted: an integer for floats is taken as their bits, as by hound, and so is a
-    /// float for integers of 32 bits. A type of your own writes one container, or is `Unsupported`.
-    ///
-    /// An error, as that of a full disk, rejects this sample alone: those that were accepted stay in the buffer, and
-    /// the next call writes them at their place.
+    /// float for integers of 32 bits.
     #[inline(always)]
     pub fn write_sample<S: Sample>(&mut self, sample: S) -> Result<()> {
         sample.__hound_write(&mut self.proved)
@@ -107,7 +102,9 @@ impl<W: Write + Seek> WavWriter<W> {
     /// If the last frame isn't finished, the result is `UnfinishedSample`, although all samples are written and
     /// counted. Readers reject the file until other samples finish the frame and are flushed.
     pub fn flush(&mut self) -> Result<()> {
-        self.publish(true)
+        let result = self.publish(true);
+        self.proved.output.writer.resume();
+        result
     }
 
     /// Ends the file: a `flush` that is the last. If it fails it is tried once more, and the samples that are in the
@@ -115,17 +112,12 @@ impl<W: Write + Seek> WavWriter<W> {
     pub fn finalize(mut self) -> Result<()> {
         let result = self.publish(false);
         self.finalized = matches!(result, Ok(()) | Err(Error::UnfinishedSample)); // Else the drop tries once more.
-        result
-    }
-
-    fn publish(&mut self, continues: bool) -> Result<()> {
-        let result = self.publish_what_fits(continues);
         self.proved.output.writer.resume();
         result
     }
 
     // Where the medium has no room for the buffered samples, those that are written are published without them.
-    fn publish_what_fits(&mut self, continues: bool) -> Result<()> {
+    fn publish(&mut self, continues: bool) -> Result<()> {
         let output = &mut self.proved.output;
         let result = output.publish_all(continues);
         if let Err(Error::IoError(_)) = result {
@@ -154,20 +146,16 @@ impl<W: Write + Seek> Drop for WavWriter<W> {
     fn drop(&mut self) {
         if !self.finalized {
             // A panic of the writer isn't seen either: while another one unwinds, it would end the program.
-            let _ = self.publish_what_fits(false);
+            let _ = self.publish(false);
         }
     }
 }
 
 impl<W: Read + Write + Seek> WavWriter<W> {
     /// Appends to a file, of which the writer has to be at the beginning: the next sample follows those
-    /// that its header counts. A fact chunk stays as it is.
-    ///
-    /// A file that lacks samples which its header counts is an `IoError`, if a `seek` to its end succeeds. What follows
-    /// these samples is overwritten, without an error, also the samples of a recording that was cut off. So repair it
-    /// first, always, as [`repair_file`](crate::repair_file) does a file. Append only if that reports `Whole` or
-    /// `CutOff`: where it reports `HasChunksAfterData` it repaired nothing, and what would be overwritten may be
-    /// samples ([`repair_file_to_end`](crate::repair_file_to_end)).
+    /// that its header counts. What follows these is overwritten, so
+    /// [repair it first](crate#recordings-that-survive-a-loss-of-power), always. A fact chunk stays as it is. A file
+    /// that lacks samples which its header counts is an `IoError`, if a `seek` to its end succeeds.
     pub fn new_append(mut writer: W) -> Result<WavWriter<W>> {
         let head = read_until_data(&mut Input(&mut writer)).map_err(error_of)?;
         let length = writer.seek(SeekFrom::End(0)).ok();
@@ -178,54 +166,42 @@ impl<W: Read + Write + Seek> WavWriter<W> {
 impl WavWriter<io::BufWriter<fs::File>> {
     /// Creates a file, over one that there was, and writes its header: when this returns, the file is a WAV file
     /// without samples. A file that there was stays as it is where the spec can't be written.
-    pub fn create<P: AsRef<path::Path>>(filename: P, spec: WavSpec) -> Result<WavWriter<io::BufWriter<fs::File>>> {
-        if !WavSpecEx::from(spec).is_writable() {
-            return Err(Error::Unsupported);
-        }
+    pub fn create<P: AsRef<path::Path>>(filename: P, spec: WavSpec) -> Result<Self> {
+        Recorder::begin(spec.into())?; // It is an error where the spec can't be written.
         let output = Output::of_file(unbuffered(fs::File::create(filename)?), None);
         WavWriter::over(Writer::try_new(Target::Plain(output), spec.into()))
     }
 
-    /// Appends to a file as `new_append` does: call [`repair_file`](crate::repair_file) first, always, and append
-    /// only if it reports `Whole` or `CutOff`.
-    pub fn append<P: AsRef<path::Path>>(filename: P) -> Result<WavWriter<io::BufWriter<fs::File>>> {
+    /// Appends to a file as `new_append` does: call [`repair_file`](crate::repair_file) first, always.
+    pub fn append<P: AsRef<path::Path>>(filename: P) -> Result<Self> {
         let file = fs::OpenOptions::new().read(true).write(true).open(filename)?;
         let head = read_until_data(&mut Input(io::BufReader::new(&file))).map_err(error_of)?;
         let length = (&file).seek(SeekFrom::End(0))?;
         WavWriter::after(Target::Plain(Output::of_file(unbuffered(file), None)), head, Some(length))
     }
 
-    /// Creates a file that survives a loss of power (own). When this returns, a WAV file without samples and its name
-    /// are on the disk, and after a `flush` all samples: it syncs them before the sizes that count them, then these.
-    ///
-    /// A file that there was is emptied once its folder is synced (Windows syncs no folders). Until the writer is
-    /// dropped, another one that is durable, or a repair of the file, is an error (`WouldBlock`), if the file system
-    /// has locks.
-    ///
-    /// After a write that failed, as on a full disk, the writer continues. After a sync that failed each later `flush`
-    /// fails, since nobody knows what the disk has. Where another file was renamed to the path before this one was
-    /// locked, that is the one that is recorded to (on Unix).
-    pub fn create_durable<P: AsRef<path::Path>>(
-        filename: P,
-        spec: WavSpec,
-    ) -> Result<WavWriter<io::BufWriter<fs::File>>> {
+    /// Creates a file that [survives a loss of power](crate#recordings-that-survive-a-loss-of-power) (own): when this
+    /// returns, it and its name are on the disk, and after a `flush` all samples. The writer locks it.
+    pub fn create_durable<P: AsRef<path::Path>>(filename: P, spec: WavSpec) -> Result<Self> {
         let (filename, spec_ex) = (filename.as_ref(), WavSpecEx::from(spec));
-        Recorder::begin(spec_ex)?; // A file that there is stays as it is where the spec can't be written.
+        Recorder::begin(spec_ex)?;
         let file = open_locked(fs::OpenOptions::new().write(true).create(true).truncate(false), filename)?;
-        begin(&file, filename, spec_ex)?;
+        for number in 0.. {
+            match beginning_effect(spec_ex, number)? {
+                Some(BeginningEffect::SyncFolder) => sync_folder(filename)?,
+                Some(BeginningEffect::Empty) => file.set_len(0)?,
+                Some(BeginningEffect::Sync) => file.sync_all()?,
+                Some(BeginningEffect::Header(_)) | None => break, // The writer writes the header.
+            }
+        }
         let mut writer = WavWriter::over(Writer::try_new(durable(file)?, spec_ex))?;
         writer.flush()?;
         Ok(writer)
     }
 
-    /// Appends to a file as [`append`](WavWriter::append) does, so that it survives a loss of power (own). When
-    /// this returns, the file as it was found and its name are on the disk, and `flush` syncs as that of
-    /// [`create_durable`](WavWriter::create_durable) does.
-    ///
-    /// A recording that was cut off is an error, and so are chunks after the data (`InvalidData`), and samples that the
-    /// header counts and the file lacks (`UnexpectedEof`). Call [`repair_file`](crate::repair_file) first: after
-    /// `Whole` and `CutOff` the file can be appended to.
-    pub fn append_durable<P: AsRef<path::Path>>(filename: P) -> Result<WavWriter<io::BufWriter<fs::File>>> {
+    /// The same of a file that is there, which is appended to (own). One that was cut off, has chunks after the data or
+    /// lacks samples is an error: call [`repair_file`](crate::repair_file) first.
+    pub fn append_durable<P: AsRef<path::Path>>(filename: P) -> Result<Self> {
         let file = open_locked(fs::OpenOptions::new().read(true).write(true), filename.as_ref())?;
         sync_folder(filename.as_ref())?;
         file.sync_all()?;
@@ -242,22 +218,9 @@ fn unbuffered(file: fs::File) -> io::BufWriter<fs::File> {
     io::BufWriter::with_capacity(0, file)
 }
 
-fn durable(file: fs::File) -> io::Result<Target<io::BufWriter<fs::File>>> {
+fn durable(file: fs::File) -> io::Result<Target<Output<io::BufWriter<fs::File>>>> {
     let disk = (file.try_clone()?, fs::File::sync_data as SyncBy);
-    Ok(Target::Durable(Durable::new(Output::of_file(unbuffered(file), Some(disk)))))
-}
-
-// What comes before the header of a new file.
-fn begin(file: &fs::File, filename: &path::Path, spec_ex: WavSpecEx) -> Result<()> {
-    for number in 0.. {
-        match beginning_effect(spec_ex, number)? {
-            Some(BeginningEffect::SyncFolder) => sync_folder(filename)?,
-            Some(BeginningEffect::Empty) => file.set_len(0)?,
-            Some(BeginningEffect::Sync) => file.sync_all()?,
-            Some(BeginningEffect::Header(_)) | None => break,
-        }
-    }
-    Ok(())
+    Ok(Target::Synced(Durable::new(Output::of_file(unbuffered(file), Some(disk)))))
 }
 
 // Syncs the folder that has the name of a file, where folders can be opened.
@@ -283,10 +246,7 @@ impl<'parent, W: Write + Seek> SampleWriter16<'parent, W> {
     /// If the batch is full.
     #[inline(always)]
     pub fn write_sample<S: Sample>(&mut self, sample: S) {
-        match self.batch.get_mut(self.index) {
-            Some(slot) => *slot = sample.as_i16(),
-            None => panic!("the batch is full"),
-        }
+        *self.batch.get_mut(self.index).expect("the batch is full") = sample.as_i16();
         self.index += 1;
     }
 

@@ -13,7 +13,7 @@ pub use Rattle.hound_sample.specs.{IsEncoded, Rejection, WritesContainer, all_co
 unfoldable pub use Rattle.hound_sample.specs.{int_container, pattern_container, state_after, with_noise}
 pub use Rattle.hound_sample.specs.declared.item.SampleError.{SampleError}
 pub use Rattle.hound_medium.specs.{FlushedSince, Flushes, Gets, Goes, IsMoved, MediumState, Puts, PutsAll, PutsFirst, Shifts, Span, Stays, WhereKeeps, WhereTells, count_of, faults_after, moment, one_more, overlay, place_reached, placed, put_at, unknown, FailsAt, IsNumbered, SameRequests, calls, greatest_count}
-pub use Rattle.hound_durable.specs.{Ascends, IsBelow, IsItsFault, IsLastBefore, LeadsBack, OnlySyncs, SurvivesLoss, byte_at, left_of, left_own, own, place_of, replays_own, Around, synced, within}
+pub use Rattle.hound_durable.specs.{Ascends, IsBelow, IsItsFault, IsLastBefore, LeadsBack, OnlySyncs, SurvivesLoss, byte_at, left_of, left_own, own, place_of, replays_own, Around, synced, within, by_target, law_by_target}
 pub use Rattle.hound_walk.specs.{Answer, Answers, AnswersFile, Chunk, Chunks, HasOneAnswer, HasOneFileAnswer, Head, IsChunk, IsDataPlace, IsSoundSpec, Readable, Rejected, Unreadable, Walk, by_subformat, chunk_bytes, cut_fault, data_fault, fault_of, first_fault, fmt_fault, fmt_len, fmt_of, joined, last_spec, ok_of, readable, spec_of, unreadable, width_of, with_format, with_valid_bits, AreTaken, CountsFailed, Gives, IsSoundChunk, IsSoundOption, ReadsChunk, ReadsContent, ReadsFormat, RejectedAfter, Rejects, RejectsFront, ReportsFront, SaysContent, TakesAll, TakesFor, TakesFront, TakesLess, UnreadableAfter, Walked, Walks, chunk_taken, content_taken, content_takes, front_taken, FailsAs, IsRejection, Names, OpensAs, ReportsError, reason_text, AnswersBytes, FindsData, Untouched, account_of, faults_after_walk, unread, IsAfter, IsAhead, IsAt, IsAtPart, IsNearer, IsNearerWithin, IsSoundStep, LeadsTo, Reaches, part_bytes, part_length, part_start, parts_left, parts_within}
 unfoldable pub use Rattle.hound_walk.specs.{by_tag, chunk_fault, content_fault, fmt_said, front_fault, spec_after, wave_format, wave_format_extensible, wave_format_ieee_float, wave_format_pcm}
 pub use Rattle.hound_walk.specs.declared.cause.Cause.{Cause}

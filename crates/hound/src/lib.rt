@@ -70,42 +70,113 @@ mod laws;
 mod runs;
 mod session;
 
-pub use hound_durable::{Durable, SyncedFile, a_durable_medium_ascends};
-pub use hound_follow::{
-    FollowError, FollowStep, Follower, Look, Recording, a_look_ends,
-    a_look_takes_the_last_byte_first,
-};
-pub use hound_medium::{Journal, Medium, Placed, Source, Tape, put_all};
-pub use hound_reader::{
-    WavIntoSamples, WavReader, WavSamples, a_block_is_its_items, a_reader_is_where_it_counts,
-    a_seek_leads_to_its_frame, an_iterator_gives_what_it_hints, items_are_of_the_file,
-    written_is_read,
-};
-pub use hound_repair::{
-    Damage, FailedAction, Repair, RepairError, RepairStep, Repairing, SeenHead, Stage, Task,
-    Unrepairable, a_look_finds_what_a_repair_does, a_repair_ends, a_repair_keeps_stored_samples,
-    a_repairer_repairs, a_second_repair_writes_nothing, a_stopped_repair_is_done_again,
-    effects_mend, find_damage, find_damage_in_file, part_at, repair, repair_file,
-    repair_file_to_end, repair_next, repair_to_end,
-};
-pub use hound_sample::{
-    Decode, FloatBits, Sample, change_bits, float_to_int, i16s_are_kept, int_to_float,
-    integers_come_back, scaled_integers_come_back,
-};
-pub use hound_spec::{Error, Result, SampleFormat, WavSpec, WavSpecEx, header_of};
-pub use hound_walk::{one_answer, read_wave_header, written_is_head};
-pub use hound_writer::{
-    Action, BeginningEffect, Effect, FoundFile, Health, Phase, Recorder, RecorderError,
-    RepairState, Report, SampleWriter16, WavWriter, a_block_is_its_samples, a_cut_is_ignored,
-    a_recorder_directs, an_effect_may_be_repeated, beginning_effect, one_append_answer, part_from,
-    put_all_at,
-};
-pub use laws::{
-    a_batch_is_its_values, a_checkpoint_holds, a_follower_reads_accepted_samples,
-    a_recording_is_kept, a_repair_loses_no_published_sample, a_request_ends,
-    a_run_leaves_its_calls, a_write_is_marked_by_its_ok, a_writer_holds_its_calls,
-    an_append_keeps_the_front, an_ok_flush_is_kept, calls_are_a_run, sessions_leave_one_file,
-    what_a_loss_leaves, what_is_kept, what_is_known,
-};
-pub use runs::{run_session, run_sessions};
-pub use session::{Begin, End, Step};
+pub use hound_durable::Durable;
+pub use hound_durable::SyncedFile;
+pub use hound_durable::Target;
+pub use hound_durable::a_durable_medium_ascends;
+pub use hound_follow::FollowError;
+pub use hound_follow::FollowStep;
+pub use hound_follow::Follower;
+pub use hound_follow::Look;
+pub use hound_follow::Recording;
+pub use hound_follow::a_look_ends;
+pub use hound_follow::a_look_takes_the_last_byte_first;
+pub use hound_medium::Journal;
+pub use hound_medium::Medium;
+pub use hound_medium::Placed;
+pub use hound_medium::Source;
+pub use hound_medium::Tape;
+pub use hound_medium::put_all;
+pub use hound_reader::WavIntoSamples;
+pub use hound_reader::WavReader;
+pub use hound_reader::WavSamples;
+pub use hound_reader::a_block_is_its_items;
+pub use hound_reader::a_reader_is_where_it_counts;
+pub use hound_reader::a_seek_leads_to_its_frame;
+pub use hound_reader::an_iterator_gives_what_it_hints;
+pub use hound_reader::items_are_of_the_file;
+pub use hound_reader::written_is_read;
+pub use hound_repair::Damage;
+pub use hound_repair::FailedAction;
+pub use hound_repair::Repair;
+pub use hound_repair::RepairError;
+pub use hound_repair::RepairStep;
+pub use hound_repair::Repairing;
+pub use hound_repair::SeenHead;
+pub use hound_repair::Stage;
+pub use hound_repair::Task;
+pub use hound_repair::Unrepairable;
+pub use hound_repair::a_look_finds_what_a_repair_does;
+pub use hound_repair::a_repair_ends;
+pub use hound_repair::a_repair_keeps_stored_samples;
+pub use hound_repair::a_repairer_repairs;
+pub use hound_repair::a_second_repair_writes_nothing;
+pub use hound_repair::a_stopped_repair_is_done_again;
+pub use hound_repair::effects_mend;
+pub use hound_repair::find_damage;
+pub use hound_repair::find_damage_in_file;
+pub use hound_repair::part_at;
+pub use hound_repair::repair;
+pub use hound_repair::repair_file;
+pub use hound_repair::repair_file_to_end;
+pub use hound_repair::repair_next;
+pub use hound_repair::repair_to_end;
+pub use hound_sample::Decode;
+pub use hound_sample::FloatBits;
+pub use hound_sample::Sample;
+pub use hound_sample::change_bits;
+pub use hound_sample::float_to_int;
+pub use hound_sample::i16s_are_kept;
+pub use hound_sample::int_to_float;
+pub use hound_sample::integers_come_back;
+pub use hound_sample::scaled_integers_come_back;
+pub use hound_spec::Error;
+pub use hound_spec::Result;
+pub use hound_spec::SampleFormat;
+pub use hound_spec::WavSpec;
+pub use hound_spec::WavSpecEx;
+pub use hound_spec::header_of;
+pub use hound_walk::one_answer;
+pub use hound_walk::read_wave_header;
+pub use hound_walk::written_is_head;
+pub use hound_writer::Action;
+pub use hound_writer::BeginningEffect;
+pub use hound_writer::Effect;
+pub use hound_writer::FoundFile;
+pub use hound_writer::Health;
+pub use hound_writer::Phase;
+pub use hound_writer::Recorder;
+pub use hound_writer::RecorderError;
+pub use hound_writer::RepairState;
+pub use hound_writer::Report;
+pub use hound_writer::SampleWriter16;
+pub use hound_writer::WavWriter;
+pub use hound_writer::a_block_is_its_samples;
+pub use hound_writer::a_cut_is_ignored;
+pub use hound_writer::a_recorder_directs;
+pub use hound_writer::an_effect_may_be_repeated;
+pub use hound_writer::beginning_effect;
+pub use hound_writer::one_append_answer;
+pub use hound_writer::part_from;
+pub use hound_writer::put_all_at;
+pub use laws::a_batch_is_its_values;
+pub use laws::a_checkpoint_holds;
+pub use laws::a_follower_reads_accepted_samples;
+pub use laws::a_recording_is_kept;
+pub use laws::a_repair_loses_no_published_sample;
+pub use laws::a_request_ends;
+pub use laws::a_run_leaves_its_calls;
+pub use laws::a_write_is_marked_by_its_ok;
+pub use laws::a_writer_holds_its_calls;
+pub use laws::an_append_keeps_the_front;
+pub use laws::an_ok_flush_is_kept;
+pub use laws::calls_are_a_run;
+pub use laws::sessions_leave_one_file;
+pub use laws::what_a_loss_leaves;
+pub use laws::what_is_kept;
+pub use laws::what_is_known;
+pub use runs::run_session;
+pub use runs::run_sessions;
+pub use session::Begin;
+pub use session::End;
+pub use session::Step;

@@ -8,7 +8,9 @@
 mod durable;
 mod file;
 mod laws;
+mod target;
 
 pub use durable::Durable;
 pub use file::SyncedFile;
 pub use laws::a_durable_medium_ascends;
+pub use target::Target;

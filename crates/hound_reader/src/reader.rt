@@ -1,6 +1,8 @@
 // The reader of a file's samples.
 ghost use Rattle.std.specs.Prelude.{◌≡◌, ℕ, ◌*◌, ◌/◌, ◌%◌, ⊤, Some, ◌≤◌, drop, IfOk, IfErr, IfSome, MatchResult};
 ghost use Rattle.hound_number.specs.{WhereKnown};
+ghost use Rattle.hound_sample.specs.{error_of_sample};
+ghost use Rattle.std.specs.declared.io.Error.{Error as IoFault};
 ghost use Rattle.hound_spec.specs.declared.spec.WavSpecEx.{WavSpecEx};
 ghost use Rattle.hound_walk.specs.{Readable, Unreadable, IsRejection, IsSoundSpec, OpensAs, FailsAs, TakesAll, UnreadableAfter, unread};
 ghost use Rattle.hound_reader.specs.Reader.{FindsSamples, IsNotOpened, OpensSource, AnswersNext, HasWholeFrames, samples_left, ReadsBlock, block_bytes, further, requested};
@@ -12,12 +14,11 @@ ghost use Rattle.hound_reader.specs.Samples.{lent_reader, lender, taken_reader};
 use crate::item::{SavingReader, read_item_since, read_many_since, result_of, taken_without};
 use crate::samples::{WavIntoSamples, WavSamples};
 use hound_medium::{Placed, Source};
-use hound_sample::{Sample, SampleError};
+use hound_sample::{Sample, SampleError, error_of_sample};
 use hound_spec::{Error, Result, WavSpec, WavSpecEx};
 use hound_walk::{FileHead, HeadError, SourceReader, error_of, read_until_samples};
 use std::io::ErrorKind;
-use std::marker::{Brand, Model, PhantomData};
-use std::{io, result};
+use std::{io, marker, result};
 
 /// A reader of a file's samples.
 ///
@@ -41,7 +42,7 @@ pub struct WavReader<R> {
     pub(crate) bytes_read: u64,
 }
 
-impl<R> Model for WavReader<R> {
+impl<R> marker::Model for WavReader<R> {
     ghost use Rattle.hound_reader.specs.Reader.{ReaderState, HasSoundCounts};
 
     ghost Value = { ReaderState R };
@@ -165,7 +166,7 @@ impl<R: io::Read + Drop> WavReader<R> {
         WavSamples {
             spec_ex: self.spec_ex,
             reader: self,
-            phantom_sample: PhantomData,
+            phantom_sample: marker::PhantomData,
         }
     }
 
@@ -177,7 +178,7 @@ impl<R: io::Read + Drop> WavReader<R> {
         WavIntoSamples {
             spec_ex: self.spec_ex,
             reader: self,
-            phantom_sample: PhantomData,
+            phantom_sample: marker::PhantomData,
         }
     }
 
@@ -202,7 +203,7 @@ impl<R: io::Read + Drop> WavReader<R> {
     {
         let wanted = samples.len().min(self.samples_left() as usize);
         let mut answer = (0, Err(SampleError::Failed));
-        let (_, given) = read_many_since::<R, S, Brand>(
+        let (_, given) = read_many_since::<R, S, marker::Brand>(
             &mut self.reader,
             self.spec_ex,
             &mut samples[..wanted],
@@ -290,7 +291,11 @@ impl<R: io::Read + Drop> WavReader<R> {
             return None;
         }
         let mut sample = Err(SampleError::Failed);
-        let (_, given) = read_item_since::<R, S, Brand>(&mut self.reader, spec_ex, &mut sample);
+        let (_, given) = read_item_since::<R, S, marker::Brand>(
+            &mut self.reader,
+            spec_ex,
+            &mut sample,
+        );
         let width = spec_ex.bytes_per_sample;
         self.samples_read += 1;
         match sample {
@@ -305,10 +310,13 @@ impl<R: io::Read + Drop> WavReader<R> {
         }
     }
 
-    /// The fault that was saved last.
-    #[inline(always)]
-    pub(crate) fn last_fault(&self) -> &io::Error {
-        &self.reader.fault
+    /// The error of an item without a sample: for a read that failed, the fault that was saved last.
+    #[cold]
+    #[inline(never)]
+    pub(crate) fn error_for(&self, no_sample: SampleError) -> Error
+        ensures { (fault : IoFault) × (result ≡ error_of_sample no_sample fault) }
+    {
+        error_of_sample(no_sample, &self.reader.fault)
     }
 }
 

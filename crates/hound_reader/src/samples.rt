@@ -5,7 +5,7 @@ ghost use Rattle.std.specs.Iterator.SizeHint.{IsWithinCount};
 ghost use Rattle.hound_reader.specs.Reader.{samples_left};
 
 use crate::reader::WavReader;
-use hound_sample::{Sample, error_of_sample};
+use hound_sample::Sample;
 use hound_spec::{Result, WavSpecEx};
 use std::io;
 use std::marker::PhantomData;
@@ -33,13 +33,13 @@ impl<R: io::Read + Drop, S: Sample> Iterator for WavSamples<'_, R, S> {
 
     ghost remaining = { λ s. at_most (samples_left (lent_reader s)) };
 
-    #[inline]
+    #[inline(always)]
     fn next(&mut self) -> Option<Result<S>> {
         let no_sample = match self.reader.next_item(self.spec_ex)? {
             Ok(sample) => return Some(Ok(sample)),
             Err(no_sample) => no_sample,
         };
-        Some(Err(error_of_sample(no_sample, self.reader.last_fault())))
+        Some(Err(self.reader.error_for(no_sample)))
     }
 
     fn size_hint(&self) -> (usize, Option<usize>)
@@ -77,13 +77,13 @@ impl<R: io::Read + Drop, S: Sample> Iterator for WavIntoSamples<R, S> {
 
     ghost remaining = { λ s. at_most (samples_left (taken_reader s)) };
 
-    #[inline]
+    #[inline(always)]
     fn next(&mut self) -> Option<Result<S>> {
         let no_sample = match self.reader.next_item(self.spec_ex)? {
             Ok(sample) => return Some(Ok(sample)),
             Err(no_sample) => no_sample,
         };
-        Some(Err(error_of_sample(no_sample, self.reader.last_fault())))
+        Some(Err(self.reader.error_for(no_sample)))
     }
 
     fn size_hint(&self) -> (usize, Option<usize>)

@@ -13,7 +13,7 @@ use crate::stages::Task;
 use hound_medium::Source;
 use hound_number::u32_at;
 use hound_spec::{Error, WavSpecEx, riff_size, riff_size_fits};
-use hound_writer::RepairState;
+use hound_writer::{FoundFile, RepairState};
 use std::result;
 
 // The tags that show that a chunk begins, whatever follows them: those of RIFF and of its update, of broadcasts, of
@@ -132,6 +132,29 @@ impl Damage {
             frames,
             left_over,
             state: self.state,
+        }
+    }
+
+    /// The file of so many bytes in which this was found, as `Recorder::resume` takes it.
+    pub fn in_file(&self, length: u64) -> FoundFile
+        requires { IsSoundDamage self.now }
+        ensures { result ≡ record {
+          spec_ex = (repair_of self.now).spec_ex;
+          data_start = self.now.head.data_start;
+          data_length = self.now.head.data_length;
+          length = length;
+          frames = (repair_of self.now).frames;
+          state = (repair_of self.now).state;
+        } }
+    {
+        let found = self.repair();
+        FoundFile {
+            spec_ex: found.spec_ex,
+            data_start: self.head.data_start,
+            data_length: self.head.data_length,
+            length,
+            frames: found.frames,
+            state: found.state,
         }
     }
 

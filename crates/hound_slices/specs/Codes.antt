@@ -1,5 +1,12 @@
 -- The numbers that C gets.
 use Rattle.std.specs.Prelude.{◌≡◌, ℕ, ℤ, pos, negsuc, Result, Ok, Err, MatchResult}
+use Rattle.std.specs.IoError.{error_kind}
+use Rattle.std.specs.declared.io.ErrorKind.{ErrorKind}
+use Rattle.std.specs.declared.io.ErrorKind.TheVariants as kinds
+use Rattle.hound_spec.specs.declared.error.Error.{Error}
+use Rattle.hound_spec.specs.declared.error.Error.TheVariants as errors
+use Rattle.hound_walk.specs.{ReportsError}
+use Rattle.hound_walk.specs.declared.cause.HeadError.TheVariants.{Rejected}
 use Rattle.hound_walk.specs.declared.cause.Cause.TheVariants.{Ended, Format, Unsupported}
 use Rattle.hound_walk.specs.declared.cause.Reason.{Reason}
 use Rattle.hound_walk.specs.declared.cause.Reason.TheVariants.{NoRiffTag, NoWaveTag, NoDataChunk, NoFmtChunk, FmtSize, UnexpectedFmtSize, ZeroChannels, BitsExceedWidth, Inconsistent, BitsNotWholeBytes, ZeroBits, BitsNot8Or16, ExSize, BitsNot32, ExtensibleSize, DataLength, FrameLength}
@@ -69,3 +76,28 @@ Returns number P = (outcome : Result ℕ CallError) × (number ≡ code_for outc
 abbrev pub Records : {T : Type 0} → ℤ → (T → ℕ) → (Result T RecorderError → Type 0) → Type 0
 Records {T} number value P = (result : Result T RecorderError) × P result
     × MatchResult result (λ x. number ≡ pos (value x)) (λ error. number ≡ error_code (Recorder error))
+
+-- an `IoError` of this kind
+abbrev pub IsOfKind : ErrorKind → Error → Type 0
+IsOfKind kind (errors.IoError fault) = error_kind fault ≡ kind
+IsOfKind kind _ = ⊥
+
+-- the error of a reader or a writer that says the same as that of a call
+abbrev pub SaysSame : CallError → Error → Type 0
+SaysSame (Head cause) error = ReportsError (Rejected cause) error
+SaysSame OtherFormat error = error ≡ errors.InvalidSampleFormat
+SaysSame TooWide error = error ≡ errors.TooWide
+SaysSame NotWritable error = error ≡ errors.Unsupported
+SaysSame Truncated error = IsOfKind kinds.UnexpectedEof error
+SaysSame TooLong error = error ≡ errors.TooLong
+SaysSame UnfinishedFrame error = error ≡ errors.UnfinishedSample
+SaysSame NoRoom error = IsOfKind kinds.WriteZero error
+SaysSame NotPerformed error = IsOfKind kinds.Other error
+SaysSame (Recorder recorder_errors.NotWritable) error = error ≡ errors.Unsupported
+SaysSame (Recorder recorder_errors.TooLong) error = error ≡ errors.TooLong
+SaysSame (Recorder recorder_errors.UnfinishedFrame) error = error ≡ errors.UnfinishedSample
+SaysSame (Recorder recorder_errors.Truncated) error = IsOfKind kinds.UnexpectedEof error
+SaysSame (Recorder recorder_errors.NeedsMend) error = IsOfKind kinds.InvalidData error
+SaysSame (Recorder recorder_errors.NeedsOverwrite) error = IsOfKind kinds.InvalidData error
+SaysSame (Recorder recorder_errors.NeedsCheckpoint) error = IsOfKind kinds.Other error
+SaysSame (Recorder recorder_errors.SyncFailed) error = IsOfKind kinds.Other error

@@ -1,11 +1,15 @@
 // Why a call doesn't do its work, and the number that C gets for it.
 ghost use Rattle.std.specs.Prelude.{◌≡◌, ◌<◌, ◌^◌, IfOk};
-ghost use Rattle.hound_slices.specs.Codes.{error_code, error_of_rejection, code_for};
-ghost use Rattle.hound_slices.specs.declared.error.CallError.TheVariants.{Head};
+ghost use Rattle.hound_slices.specs.Codes.{IsOfKind, SaysSame, error_code, error_of_rejection, code_for};
+ghost use Rattle.hound_slices.specs.Repairers.{error_of};
+ghost use Rattle.hound_slices.specs.declared.error.CallError.TheVariants.{Head, Recorder};
 
-use hound_repair::Unrepairable;
-use hound_walk::Cause;
+use hound_repair::{FailedAction, RepairError, Unrepairable};
+use hound_spec::Error;
+use hound_walk::{Cause, HeadError};
 use hound_writer::RecorderError;
+use std::io;
+use std::io::ErrorKind;
 
 /// Why a call doesn't do its work.
 #[derive(Clone, Copy, Debug, PartialEq, Eq)]
@@ -48,6 +52,81 @@ impl From<Unrepairable> for CallError {
             Unrepairable::Head(cause) => CallError::Head(cause),
             Unrepairable::Unsupported => CallError::NotWritable,
             Unrepairable::TooLong => CallError::TooLong,
+        }
+    }
+}
+
+/// What a call returns for an error of a repair.
+pub fn error_of(error: RepairError) -> CallError
+    ensures { result ≡ error_of error }
+{
+    match error {
+        RepairError::Rejected(why) => why.into(),
+        RepairError::Failed(FailedAction::Sync) => CallError::Recorder(RecorderError::SyncFailed),
+        RepairError::Failed(FailedAction::Call) => CallError::NotPerformed,
+    }
+}
+
+// A fault of this kind, with a text of its own.
+fn fault(kind: ErrorKind, text: &'static str) -> Error
+    ensures { IsOfKind kind result }
+{
+    Error::IoError(io::Error::new(kind, text))
+}
+
+// The error of a writer that says what a recorder's does.
+fn error_of_recorder(error: RecorderError) -> Error
+    ensures { SaysSame (Recorder error) result }
+{
+    match error {
+        RecorderError::NotWritable => Error::Unsupported,
+        RecorderError::TooLong => Error::TooLong,
+        RecorderError::UnfinishedFrame => Error::UnfinishedSample,
+        RecorderError::Truncated => fault(
+            ErrorKind::UnexpectedEof,
+            "the file lacks samples that its header counts",
+        ),
+        RecorderError::NeedsMend => fault(
+            ErrorKind::InvalidData,
+            "the recording was cut off: repair it first",
+        ),
+        RecorderError::NeedsOverwrite => fault(
+            ErrorKind::InvalidData,
+            "chunks after the data would be overwritten",
+        ),
+        RecorderError::NeedsCheckpoint => fault(
+            ErrorKind::Other,
+            "a write failed: a checkpoint has to come first",
+        ),
+        RecorderError::SyncFailed => fault(
+            ErrorKind::Other,
+            "a sync failed: nobody knows what is stored",
+        ),
+    }
+}
+
+/// The error of a reader or a writer that says the same.
+impl From<CallError> for Error {
+    ghost from_gives = { SaysSame };
+
+    fn from(error: CallError) -> Error {
+        match error {
+            CallError::Head(cause) => hound_walk::error_of(HeadError::Rejected(cause)),
+            CallError::OtherFormat => Error::InvalidSampleFormat,
+            CallError::TooWide => Error::TooWide,
+            CallError::NotWritable => Error::Unsupported,
+            CallError::Truncated => error_of_recorder(RecorderError::Truncated),
+            CallError::TooLong => Error::TooLong,
+            CallError::UnfinishedFrame => Error::UnfinishedSample,
+            CallError::NoRoom => fault(
+                ErrorKind::WriteZero,
+                "more bytes are needed than there are",
+            ),
+            CallError::NotPerformed => fault(
+                ErrorKind::Other,
+                "the file could not be read or written",
+            ),
+            CallError::Recorder(error) => error_of_recorder(error),
         }
     }
 }

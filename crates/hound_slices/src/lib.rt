@@ -18,7 +18,7 @@ mod walking;
 mod writing;
 
 pub use effect::{HoundEffect, beginning_for_c, effect_for_c, report_of};
-pub use error::{CallError, code_of, code_of_error};
+pub use error::{CallError, code_of, code_of_error, error_of};
 pub use following::{HoundFollower, step_follower};
 pub use reading::{decode_block, read_block};
 pub use recording::{HoundRecorder, found_file, mends, overwrites, recorder_for_c, recorder_of};

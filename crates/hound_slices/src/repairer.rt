@@ -4,18 +4,18 @@ ghost use Rattle.hound_repair.specs.{IsSoundHead, IsSoundRepairing, IsRepair, Is
 ghost use Rattle.hound_repair.specs.declared.machine.Repairing.TheVariants as states;
 ghost use Rattle.hound_repair.specs.declared.stages.Stage.TheVariants as stages;
 ghost use Rattle.hound_slices.specs.Effects.{effect_of};
-ghost use Rattle.hound_slices.specs.Repairers.{BeginsRepairer, HasRepairerNumbers, StepsRepairer, after_head, count_of, failure_of_code, error_of, head_of, repairing_of, task_of};
+ghost use Rattle.hound_slices.specs.Repairers.{BeginsRepairer, HasRepairerNumbers, StepsRepairer, after_head, count_of, failure_of_code, head_of, repairing_of, task_of};
 ghost use Rattle.hound_slices.specs.Repairing.{FindsInFile, IsDamageError, IsReported, RepairsFile, state_code, state_of_code};
 
 use crate::effect::{HoundEffect, effect_for_c, report_of};
-use crate::error::CallError;
+use crate::error::{CallError, error_of};
 use crate::spec::{HoundRepair, HoundSpec, spec_for_c};
 use crate::walking::{found_for_c, found_of, numbers_of, walk_with};
 use hound_repair::{
     Damage, FailedAction, RepairError, RepairState, RepairStep, Repairing, SeenHead, Stage, Task,
     find_damage_in_bytes, repair_bytes, repair_next,
 };
-use hound_writer::{Action, RecorderError};
+use hound_writer::Action;
 
 /// A repairer of a file that the caller reads and writes.
 #[repr(C)]
@@ -187,17 +187,6 @@ fn count_of(state: Repairing) -> usize
     match state {
         Repairing::Looks(stage) => stage.count(),
         _ => 0,
-    }
-}
-
-// What a call returns for an error of a repair.
-fn error_of(error: RepairError) -> CallError
-    ensures { result ≡ error_of error }
-{
-    match error {
-        RepairError::Rejected(why) => why.into(),
-        RepairError::Failed(FailedAction::Sync) => CallError::Recorder(RecorderError::SyncFailed),
-        RepairError::Failed(FailedAction::Call) => CallError::NotPerformed,
     }
 }
 

@@ -6,5 +6,7 @@
 //! places.
 
 mod durable;
+mod target;
 
 pub use durable::Durable;
+pub use target::Target;

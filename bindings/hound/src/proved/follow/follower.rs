@@ -164,6 +164,14 @@ impl Follower {
         }
     }
 
+    /// How many bytes of whole frames the header has counted, at most so far; 0 before all of it was there.
+    pub fn counted(self) -> u32 {
+        match self {
+            Follower::Walks(_) => 0,
+            Follower::Looks(recording, _) => recording.counted,
+        }
+    }
+
     /// Where it reads next, and how many bytes.
     pub fn request(self) -> (u64, u32) {
         let (recording, look) = match self {

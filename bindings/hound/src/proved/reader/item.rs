@@ -4,9 +4,7 @@
 use crate::proved::number::early_end;
 use crate::proved::sample::{ContainerReader, Sample, SampleError, error_of_sample, reason_of};
 use crate::proved::spec::WavSpecEx;
-use crate::rattle::Brand;
-use std::marker::PhantomData;
-use std::{io, result};
+use std::{io, marker, result};
 
 /// How many bytes an item without a sample took, of those given for it.
 #[inline(always)]
@@ -92,14 +90,14 @@ impl<R: io::Read> SavingReader<R> {
 /// one, whose members are chosen where it is passed.
 pub(crate) trait CountStart {}
 
-impl CountStart for Brand {}
+impl CountStart for crate::rattle::Brand {}
 
 /// A reader, and the number of bytes that it gave since counting began, at most `u64::MAX`. A type may read an item
 /// however it likes, and a later `seek` has to know what was really taken.
 pub(crate) struct CountingReader<'a, R: io::Read, B: CountStart> {
     pub(crate) reader: &'a mut SavingReader<R>,
     pub(crate) given: u64,
-    pub(crate) since: PhantomData<B>,
+    pub(crate) since: marker::PhantomData<B>,
 }
 
 impl<R: io::Read, B: CountStart> io::Read for CountingReader<'_, R, B> {
@@ -110,6 +108,7 @@ impl<R: io::Read, B: CountStart> io::Read for CountingReader<'_, R, B> {
                 self.given = self.given.saturating_add(count as u64);
                 Ok(count)
             }
+            // Whatever this one is, callers get the fault that was saved.
             _ => Err(io::ErrorKind::Other.into()),
         }
     }
@@ -158,7 +157,7 @@ pub(crate) fn read_item_since<'a, R: io::Read, S: Sample, B: CountStart>(
     spec_ex: WavSpecEx,
     answer: &mut result::Result<S, SampleError>,
 ) -> (&'a mut SavingReader<R>, u64) {
-    let mut counting = CountingReader { reader, given: 0, since: PhantomData::<B> };
+    let mut counting = CountingReader { reader, given: 0, since: marker::PhantomData::<B> };
     let (format, bits) = (spec_ex.spec.sample_format, spec_ex.spec.bits_per_sample);
     *answer = S::read_item(&mut counting, format, spec_ex.bytes_per_sample, bits);
     (counting.reader, counting.given)
@@ -188,7 +187,7 @@ pub(crate) fn read_many_since<'a, R: io::Read, S: Sample, B: CountStart>(
     samples: &mut [S],
     answer: &mut (usize, result::Result<(), SampleError>),
 ) -> (&'a mut SavingReader<R>, u64) {
-    let mut counting = CountingReader { reader, given: 0, since: PhantomData::<B> };
+    let mut counting = CountingReader { reader, given: 0, since: marker::PhantomData::<B> };
     *answer = read_many(&mut counting, spec_ex, samples);
     (counting.reader, counting.given)
 }

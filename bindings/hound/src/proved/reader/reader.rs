@@ -4,13 +4,11 @@
 use crate::proved::reader::item::{SavingReader, read_item_since, read_many_since, result_of, taken_without};
 use crate::proved::reader::samples::{WavIntoSamples, WavSamples};
 use crate::proved::medium::{Placed, Source};
-use crate::proved::sample::{Sample, SampleError};
+use crate::proved::sample::{Sample, SampleError, error_of_sample};
 use crate::proved::spec::{Error, Result, WavSpec, WavSpecEx};
 use crate::proved::walk::{FileHead, HeadError, SourceReader, error_of, read_until_samples};
 use std::io::ErrorKind;
-use crate::rattle::Brand;
-use std::marker::PhantomData;
-use std::{io, result};
+use std::{io, marker, result};
 
 /// A reader of a file's samples.
 ///
@@ -102,13 +100,13 @@ impl<R: io::Read> WavReader<R> {
     /// If the type doesn't fit the file, each item is the error of the type, and takes no byte. A new iterator
     /// continues where the last stopped, also one of another type.
     pub fn samples<'wr, S: Sample>(&'wr mut self) -> WavSamples<'wr, R, S> {
-        WavSamples { spec_ex: self.spec_ex, reader: self, phantom_sample: PhantomData }
+        WavSamples { spec_ex: self.spec_ex, reader: self, phantom_sample: marker::PhantomData }
     }
 
     /// The same iterator, which owns the reader. To use the reader afterwards, call [`WavReader::samples`] in place of
     /// this.
     pub fn into_samples<S: Sample>(self) -> WavIntoSamples<R, S> {
-        WavIntoSamples { spec_ex: self.spec_ex, reader: self, phantom_sample: PhantomData }
+        WavIntoSamples { spec_ex: self.spec_ex, reader: self, phantom_sample: marker::PhantomData }
     }
 
     /// Reads the next samples into the front of a slice, channels in turn. Returns how many came, and why no more if
@@ -129,8 +127,12 @@ impl<R: io::Read> WavReader<R> {
     pub fn read_samples<S: Sample>(&mut self, samples: &mut [S]) -> (usize, Result<()>) {
         let wanted = samples.len().min(self.samples_left() as usize);
         let mut answer = (0, Err(SampleError::Failed));
-        let (_, given) =
-            read_many_since::<R, S, Brand>(&mut self.reader, self.spec_ex, &mut samples[..wanted], &mut answer);
+        let (_, given) = read_many_since::<R, S, crate::rattle::Brand>(
+            &mut self.reader,
+            self.spec_ex,
+            &mut samples[..wanted],
+            &mut answer,
+        );
         let (count, answer) = answer;
         let result = result_of(answer, &mut self.reader.fault);
         self.count_block(count, given, answer);
@@ -192,7 +194,7 @@ impl<R: io::Read> WavReader<R> {
             return None;
         }
         let mut sample = Err(SampleError::Failed);
-        let (_, given) = read_item_since::<R, S, Brand>(&mut self.reader, spec_ex, &mut sample);
+        let (_, given) = read_item_since::<R, S, crate::rattle::Brand>(&mut self.reader, spec_ex, &mut sample);
         let width = spec_ex.bytes_per_sample;
         self.samples_read += 1;
         match sample {
@@ -207,10 +209,11 @@ impl<R: io::Read> WavReader<R> {
         }
     }
 
-    /// The fault that was saved last.
-    #[inline(always)]
-    pub(crate) fn last_fault(&mut self) -> &mut io::Error {
-        &mut self.reader.fault
+    /// The error of an item without a sample: for a read that failed, the fault that was saved last.
+    #[cold]
+    #[inline(never)]
+    pub(crate) fn error_for(&mut self, no_sample: SampleError) -> Error {
+        error_of_sample(no_sample, &mut self.reader.fault)
     }
 }
 

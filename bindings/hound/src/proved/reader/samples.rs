@@ -2,7 +2,7 @@
 // The iterators over samples.
 
 use crate::proved::reader::reader::WavReader;
-use crate::proved::sample::{Sample, error_of_sample};
+use crate::proved::sample::Sample;
 use crate::proved::spec::{Result, WavSpecEx};
 use std::io;
 use std::marker::PhantomData;
@@ -22,13 +22,13 @@ pub struct WavSamples<'wr, R, S> {
 impl<R: io::Read, S: Sample> Iterator for WavSamples<'_, R, S> {
     type Item = Result<S>;
 
-    #[inline]
+    #[inline(always)]
     fn next(&mut self) -> Option<Result<S>> {
         let no_sample = match self.reader.next_item(self.spec_ex)? {
             Ok(sample) => return Some(Ok(sample)),
             Err(no_sample) => no_sample,
         };
-        Some(Err(error_of_sample(no_sample, self.reader.last_fault())))
+        Some(Err(self.reader.error_for(no_sample)))
     }
 
     fn size_hint(&self) -> (usize, Option<usize>) {
@@ -53,13 +53,13 @@ pub struct WavIntoSamples<R, S> {
 impl<R: io::Read, S: Sample> Iterator for WavIntoSamples<R, S> {
     type Item = Result<S>;
 
-    #[inline]
+    #[inline(always)]
     fn next(&mut self) -> Option<Result<S>> {
         let no_sample = match self.reader.next_item(self.spec_ex)? {
             Ok(sample) => return Some(Ok(sample)),
             Err(no_sample) => no_sample,
         };
-        Some(Err(error_of_sample(no_sample, self.reader.last_fault())))
+        Some(Err(self.reader.error_for(no_sample)))
     }
 
     fn size_hint(&self) -> (usize, Option<usize>) {

@@ -6,7 +6,7 @@ use crate::proved::repair::stages::Task;
 use crate::proved::medium::Source;
 use crate::proved::number::u32_at;
 use crate::proved::spec::{Error, WavSpecEx, riff_size, riff_size_fits};
-use crate::proved::writer::RepairState;
+use crate::proved::writer::{FoundFile, RepairState};
 use std::result;
 
 // The tags that show that a chunk begins, whatever follows them: those of RIFF and of its update, of broadcasts, of
@@ -96,6 +96,19 @@ impl Damage {
             _ => (self.sizes.frames, self.sizes.left_over),
         };
         Repair { spec_ex, frames, left_over, state: self.state }
+    }
+
+    /// The file of so many bytes in which this was found, as `Recorder::resume` takes it.
+    pub fn in_file(&self, length: u64) -> FoundFile {
+        let found = self.repair();
+        FoundFile {
+            spec_ex: found.spec_ex,
+            data_start: self.head.data_start,
+            data_length: self.head.data_length,
+            length,
+            frames: found.frames,
+            state: found.state,
+        }
     }
 
     /// Whether a pad byte is missing after its data.

@@ -1,9 +1,12 @@
 // Made from crates/hound_slices by scripts/erase.py: change that, and not this.
 // Why a call doesn't do its work, and the number that C gets for it.
 
-use crate::proved::repair::Unrepairable;
-use crate::proved::walk::Cause;
+use crate::proved::repair::{FailedAction, RepairError, Unrepairable};
+use crate::proved::spec::Error;
+use crate::proved::walk::{Cause, HeadError};
 use crate::proved::writer::RecorderError;
+use std::io;
+use std::io::ErrorKind;
 
 /// Why a call doesn't do its work.
 #[derive(Clone, Copy, Debug, PartialEq, Eq)]
@@ -42,6 +45,52 @@ impl From<Unrepairable> for CallError {
             Unrepairable::Head(cause) => CallError::Head(cause),
             Unrepairable::Unsupported => CallError::NotWritable,
             Unrepairable::TooLong => CallError::TooLong,
+        }
+    }
+}
+
+/// What a call returns for an error of a repair.
+pub fn error_of(error: RepairError) -> CallError {
+    match error {
+        RepairError::Rejected(why) => why.into(),
+        RepairError::Failed(FailedAction::Sync) => CallError::Recorder(RecorderError::SyncFailed),
+        RepairError::Failed(FailedAction::Call) => CallError::NotPerformed,
+    }
+}
+
+// A fault of this kind, with a text of its own.
+fn fault(kind: ErrorKind, text: &'static str) -> Error {
+    Error::IoError(io::Error::new(kind, text))
+}
+
+// The error of a writer that says what a recorder's does.
+fn error_of_recorder(error: RecorderError) -> Error {
+    match error {
+        RecorderError::NotWritable => Error::Unsupported,
+        RecorderError::TooLong => crate::rattle::too_long(),
+        RecorderError::UnfinishedFrame => Error::UnfinishedSample,
+        RecorderError::Truncated => fault(ErrorKind::UnexpectedEof, "the file lacks samples that its header counts"),
+        RecorderError::NeedsMend => fault(ErrorKind::InvalidData, "the recording was cut off: repair it first"),
+        RecorderError::NeedsOverwrite => fault(ErrorKind::InvalidData, "chunks after the data would be overwritten"),
+        RecorderError::NeedsCheckpoint => fault(ErrorKind::Other, "a write failed: a checkpoint has to come first"),
+        RecorderError::SyncFailed => fault(ErrorKind::Other, "a sync failed: nobody knows what is stored"),
+    }
+}
+
+/// The error of a reader or a writer that says the same.
+impl From<CallError> for Error {
+    fn from(error: CallError) -> Error {
+        match error {
+            CallError::Head(cause) => crate::proved::walk::error_of(HeadError::Rejected(cause)),
+            CallError::OtherFormat => Error::InvalidSampleFormat,
+            CallError::TooWide => Error::TooWide,
+            CallError::NotWritable => Error::Unsupported,
+            CallError::Truncated => error_of_recorder(RecorderError::Truncated),
+            CallError::TooLong => crate::rattle::too_long(),
+            CallError::UnfinishedFrame => Error::UnfinishedSample,
+            CallError::NoRoom => fault(ErrorKind::WriteZero, "more bytes are needed than there are"),
+            CallError::NotPerformed => fault(ErrorKind::Other, "the file could not be read or written"),
+            CallError::Recorder(error) => error_of_recorder(error),
         }
     }
 }

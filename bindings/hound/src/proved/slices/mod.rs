@@ -8,7 +8,7 @@ mod reading;
 mod scaling;
 mod searching;
 mod writing;
-pub use error::{CallError, code_of, code_of_error};
+pub use error::{CallError, code_of, code_of_error, error_of};
 pub use reading::{decode_block, read_block};
 pub use scaling::{encode_floats, encode_with_noise, narrow_floats, widen_floats};
 pub use searching::{file_kind, guess_data, whole_frames};
