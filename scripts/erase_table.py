@@ -10,9 +10,11 @@ CRATES = ["number", "spec", "sample", "medium", "durable", "walk", "reader", "wr
 # itself, and the structs that only C has.
 LEFT_OUT = [
     "number/laws.rt", "sample/laws.rt", "durable/laws.rt", "walk/laws.rt", "reader/laws.rt", "writer/laws.rt",
-    "repair/laws.rt", "follow/laws.rt", "medium/bytes.rt", "medium/cursor.rt", "medium/file.rt", "medium/journal.rt", "medium/tape.rt",
+    "repair/laws.rt", "follow/laws.rt", "medium/bytes.rt", "medium/cursor.rt", "medium/file.rt", "medium/journal.rt",
+    "medium/tape.rt",
     "spec/allocation.rt", "durable/file.rt", "reader/file.rt", "writer/file.rt", "writer/batch.rt", "repair/file.rt",
-    "slices/effect.rt", "slices/following.rt", "slices/recording.rt", "slices/repairer.rt", "slices/spec.rt", "slices/value.rt",
+    "slices/effect.rt", "slices/following.rt", "slices/recording.rt", "slices/repairer.rt", "slices/spec.rt",
+    "slices/value.rt",
     "slices/walking.rt",
 ]
 

@@ -428,8 +428,10 @@ module _ (s : WavSpecEx) (file : Begun) (calls : List Call) (m : MediumState) (k
           record {
             of = v;
             few = few;
-            stored = subst (λ n. IsStored start (concat (samples first)) 0 n (now j)) (sym same)
-                (keeps.promises.stored first (call ∷ rest) 0 u.of.a k j parts from le to (omega (arith, u.few)) u.stored);
+            stored =
+                let later = keeps.promises.stored first (call ∷ rest) 0 u.of.a k j parts from le to
+                (omega (arith, u.few)) u.stored in
+                subst (λ n. IsStored start (concat (samples first)) 0 n (now j)) (sym same) later;
           },
           older,
         )
@@ -464,8 +466,8 @@ module _ (s : WavSpecEx) (file : Begun) (calls : List Call) (m : MediumState) (k
                       (here.0 ∙ ap (λ n. mix n old new) no_later ∙ sym (ap (λ n. mix n old new) no_sooner)
                       ∙ sym there.0) u
                   | inl some ↦
-                      let (v, all, older) = next_sources (length_at k) (length_at j) (count k) old new there.0 u.of u.few
-                      (count j) some (grows j j (omega arith)).1 here.0 (grows k j le).0 in (
+                      let (v, all, older) = next_sources (length_at k) (length_at j) (count k) old new there.0
+                      u.of u.few (count j) some (grows j j (omega arith)).1 here.0 (grows k j le).0 in (
                         record {
                           of = v;
                           few = omega (arith, all);

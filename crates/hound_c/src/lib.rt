@@ -20,13 +20,13 @@ ghost use Rattle.hound_slices.specs.declared.error.CallError.TheVariants.{Head};
 use hound_repair::Task;
 use hound_sample::{FloatBits, UnitDouble, UnitFloat};
 use hound_slices::{
-    CallError, HoundEffect, HoundFollower, HoundInfo, HoundRecorder, HoundRepair, HoundRepairer, HoundSpec,
-    HoundWalk, append_block, begin_repairer, beginning_for_c, code_of, code_of_error, container_of,
-    decode_block, encode_block, encode_floats, encode_with_noise, file_kind, file_size,
-    find_file_damage, found_file, guess_data, info_for_c, mends, narrow_floats, overwrites,
-    read_block, recorder_for_c, recorder_of, repair_file, report_of, spec_from_c, step_follower,
-    step_repairer, step_walk, value_of, whole_frames, widen_floats, write_file, write_filler, write_header,
-    write_sizes,
+    CallError, HoundEffect, HoundFollower, HoundInfo, HoundRecorder, HoundRepair, HoundRepairer,
+    HoundSpec, HoundWalk, append_block, begin_repairer, beginning_for_c, code_of, code_of_error,
+    container_of, decode_block, encode_block, encode_floats, encode_with_noise, file_kind,
+    file_size, find_file_damage, found_file, guess_data, info_for_c, mends, narrow_floats,
+    overwrites, read_block, recorder_for_c, recorder_of, repair_file, report_of, spec_from_c,
+    step_follower, step_repairer, step_walk, value_of, whole_frames, widen_floats, write_file,
+    write_filler, write_header, write_sizes,
 };
 use hound_spec::SampleFormat;
 use hound_walk::find_samples;

@@ -103,7 +103,11 @@ fn first_byte_first(alloc: Global, journal: &Journal, states: [usize; 4]) -> Res
 
 // How many of the bytes that a follower read aren't the accepted samples.
 fn count_wrong(bytes: &[u8]) -> usize {
-    bytes.iter().enumerate().filter(|(i, byte)| **byte != if *i < 254 { 0x87 } else { 0x89 }).count()
+    bytes
+        .iter()
+        .enumerate()
+        .filter(|(i, byte)| **byte != if *i < 254 { 0x87 } else { 0x89 })
+        .count()
 }
 
 #[test]

@@ -6,8 +6,8 @@ ghost use Rattle.hound.specs.declared.Error.TheVariants.{OutOfMemory};
 ghost use Rattle.hound.specs.declared.Report.TheVariants.{Done};
 
 use hound::{
-    Follower, Journal, Look, Placed, Recording, Report,
-    a_follower_reads_accepted_samples, a_look_takes_the_last_byte_first,
+    Follower, Journal, Look, Placed, Recording, Report, a_follower_reads_accepted_samples,
+    a_look_takes_the_last_byte_first,
 };
 use std::alloc::Global;
 
@@ -24,12 +24,7 @@ fn part_of(bytes: &[u8], place: u64, count: u32) -> &[u8]
 }
 
 // What a follower does with the bytes that it requests, as a recording has them once so many bytes were written.
-fn step_at(
-    alloc: Global,
-    journal: &Journal,
-    k: usize,
-    follower: &mut Follower,
-) -> hound::Result<()>
+fn step_at(alloc: Global, journal: &Journal, k: usize, follower: &mut Follower) -> hound::Result<()>
     requires sound { IsSoundFollower follower.old }
     requires past { k ≤ length (⟦<Journal as Placed>⟧.state journal.now).past }
     ensures sound { IsSoundFollower follower.new }
@@ -46,7 +41,7 @@ fn step_at(
 }
 
 /// What a program has read that follows a recording. It takes the four bytes of the data length, the last one first,
-/// while the recording goes on: the last one as it is once `k3` bytes were written, the first one as it is once `k0`
+/// while the recording continues: the last one as it is once `k3` bytes were written, the first one as it is once `k0`
 /// were. Then it reads what they count, as the recording is `later` still.
 ///
 /// Each byte is that of the first accepted samples, whatever calls and faults come between (`accepted`). If the length

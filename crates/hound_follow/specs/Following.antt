@@ -82,7 +82,7 @@ abbrev pub begun : WavSpecEx → ℕ → Recording
 begun s start = record { spec_ex = s; data_start = start; counted = 0; last = 0 }
 
 -- | Walks | done, and another part decides | it requests that part | at that part |
--- | Walks | done, and the data begin after it | Grew | at the Length of this recording, of which nothing is counted yet |
+-- | Walks | done, and the data begin after it | Grew | at the Length of this recording, of which none is counted |
 abbrev pub after_step : Step → Outcome
 after_step (Next walk) = look_requests (Walks walk)
 after_step (Data head) = look_ended (Looks (begun head.spec_ex head.data_start) Length) (Ok Grew)

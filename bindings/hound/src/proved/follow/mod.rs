@@ -1,9 +1,9 @@
 // Made from crates/hound_follow by scripts/erase.py: change that, and not this.
 //! A recording that is read while another program makes it.
 //!
-//! A recorder stores samples before it counts them, so whatever the header counts is there, and stays there. [`Follower`]
-//! requests the reads by which a program learns how much that is: the header, until all of it is there, and then the
-//! data length, again and again.
+//! A recorder stores samples before it counts them, so whatever the header counts is there, and stays there. A
+//! [`Follower`] requests the reads by which a program learns how much that is: the header, until all of it is there,
+//! and then the data length, again and again.
 //!
 //! One read of its four bytes isn't enough. A recorder may write a new length meanwhile, and a system that doesn't read
 //! or write four bytes at once then returns some bytes of the old length and some of the new one, which together may

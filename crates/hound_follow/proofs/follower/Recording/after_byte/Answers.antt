@@ -4,7 +4,8 @@ use Rattle.hound_follow.proofs.follower.Recording.after_byte.Goals as goal
 
 pub overflow_mul-from_here : goal.overflow_mul-from_here
 overflow_mul-from_here c =
-    let all = fits c.args.above 0 (omega arith) c.args.number c.requires.above.0 c.requires.above.1 in omega (arith, all)
+    let all = fits c.args.above 0 (omega arith) c.args.number c.requires.above.0 c.requires.above.1 in
+    omega (arith, all)
 
 pub overflow_add-from_here : goal.overflow_add-from_here
 overflow_add-from_here c =
