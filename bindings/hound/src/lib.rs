@@ -33,6 +33,7 @@ macro_rules! with_std {
 with_std! {
     pub mod blocks;
     mod error;
+    mod follow;
     mod lock;
     mod medium;
     pub mod parts;
@@ -41,6 +42,7 @@ with_std! {
     mod sample;
     mod writer;
 
+    pub use follow::Follower;
     pub use proved::spec::{Error, Result};
     pub use lock::lock;
     pub use reader::{read_wave_header, WavIntoSamples, WavReader, WavSamples};
