@@ -1373,7 +1373,8 @@ class Followed {
 
   /** An error where the file no longer is that recording: it is shorter, or was emptied and recorded anew. */
   #check() {
-    const { length } = this.#tail, now = readNow(this.#handle, { place: this.#dataStart + this.#given - length, length });
+    const { length } = this.#tail, place = this.#dataStart + this.#given - length;
+    const now = readNow(this.#handle, { place, length });
     if (now.length < length || this.#tail.some((byte, i) => byte !== now[i])) throw new HoundError("TRUNCATED");
   }
 
