@@ -131,6 +131,9 @@ class Following(Followed):
         with hound.Follower(self.path) as follower, unittest.mock.patch("os.pread", noted):
             follower.read()
             self.assertEqual(calls[calls.index((4, 40)) :][:5], [(4, 40), (1, 43), (1, 42), (1, 41), (1, 40)])
+            calls.clear()
+            follower.read()
+            self.assertEqual(calls, [(4, 40)])  # One call of the system where nothing is new.
 
     def test_headers_that_are_not_read(self):
         for content, cause, kind in (
