@@ -351,6 +351,15 @@ class Iterations(Followed):
         self.assertEqual(len(os.listdir(self.folder)), 7)
         self.assertEqual(sum(map(len, hound.follow(self.path))), 24)
 
+    def test_parts_of_a_recorder_that_locks_nothing(self):
+        """A file has ended where the next one counts frames: only the last one is waited for."""
+        for number in range(1, 12):
+            self.leave(stereo(SAMPLES.tobytes()), hound.parts.part_name(self.path, number))
+        self.leave(stereo(b""), hound.parts.part_name(self.path, 12))
+        begun = time.monotonic()
+        self.assertEqual(list(hound.follow(self.path, idle=1.5, parts=True)), [SAMPLES] * 11)
+        self.assertTrue(3 <= time.monotonic() - begun < 12)
+
     def test_the_last_look_comes_after_the_lock(self):
         """The recorder makes its last checkpoint, and ends, when the lock is asked for."""
         writer, is_recorded = hound.create(self.path, 8000, 2, 16), hound.Follower.is_recorded
