@@ -32,8 +32,19 @@ static int may_ask(void) {
     return now - last_news >= least && now - last_asked >= SECOND;
 }
 
-/* Writes all samples of the file, until its recording is over: the status. */
-static int copy(const char *path) {
+/* Whether the file at a path counts samples by now: then a read without room has to say so. */
+static int counts_samples(const char *path) {
+    static hound_follow other;
+    int64_t code;
+    if (hound_follow_open(&other, path) < 0) return 0;
+    code = hound_follow_read(&other, NULL, 0);
+    hound_follow_close(&other);
+    return code == HOUND_NO_ROOM;
+}
+
+/* Writes all samples of the file, until its recording is over: the status. A recorder that locks nothing has ended it,
+   too, once the next file counts samples; NULL where there is to be none. */
+static int copy(const char *path, const char *next) {
     static uint8_t bytes[1 << 18]; /* a frame has fewer */
     char room[HOUND_FILE_SENTENCE];
     int is_over = 0;
@@ -51,6 +62,8 @@ static int copy(const char *path) {
             int32_t code = hound_follow_is_recorded(&follow);
             if (code < 0) return fail(path, hound_follow_reason(&follow, code, room));
             last_asked = hound_file_milliseconds(), is_over = code == 0;
+        } else if (next && idle > 0 && counts_samples(next)) {
+            is_over = 1;
         } else if (is_late()) {
             return fail(path, "nothing new came");
         }
@@ -80,10 +93,10 @@ static int64_t time_of(const char *option, const char *word, double unit) {
 
 int main(int argc, char **argv) {
     static const char usage[] = "follow FILE [--parts] [--idle SECONDS] [--timeout SECONDS] [--poll MILLISECONDS]";
-    static char name[1 << 15];
-    const char *path;
+    static char names[2][1 << 15];
+    const char *path, *next = NULL;
     int is_in_parts = 0, status;
-    unsigned number = 1;
+    unsigned number;
     hound_file_arguments(&argc, &argv);
     for (int i = 2; i < argc; i++) {
         if (!strcmp(argv[i], "--parts")) is_in_parts = 1;
@@ -97,13 +110,16 @@ int main(int argc, char **argv) {
     path = argv[1], last_news = hound_file_milliseconds();
     while (hound_follow_open(&follow, path) < 0)
         if (follow.file.fault != ENOENT || timeout == 0 || is_late()) return fail(path, strerror(follow.file.fault));
-    for (;;) {
-        status = copy(path);
+    for (number = 2;; number++) {
+        if (is_in_parts) next = names[number % 2];
+        if (is_in_parts && hound_file_part(argv[1], number, names[number % 2], sizeof names[0]) < 0)
+            return fail(path, "the path is too long");
+        status = copy(path, next);
         if (status == 0) status = report(path);
         hound_follow_close(&follow);
-        if (status != 0 || !is_in_parts || hound_file_part(argv[1], ++number, name, sizeof name) < 0) return status;
+        if (status != 0 || !next) return status;
         /* A recorder makes and locks the next file before it unlocks this one. */
-        if (hound_follow_open(&follow, path = name) < 0)
+        if (hound_follow_open(&follow, path = next) < 0)
             return follow.file.fault == ENOENT ? 0 : fail(path, strerror(follow.file.fault));
     }
 }

@@ -5,13 +5,13 @@ import math
 import os
 import sys
 import time
-from typing import Any, Iterator, NamedTuple, Optional, Set
+from typing import Any, Iterator, NamedTuple, Optional, Set, Tuple
 
 from . import conversion, disk
 from ._calls import OneAtATime, one_at_a_time
 from ._library import (
-    FIND_DAMAGE, FRONT_BYTES, NOTHING_NEW, POINTER, Cause, CFollower, CSpec, Dtype, Info, Path, Repair, check_header,
-    function, info_from, integer,
+    FIND_DAMAGE, FRONT_BYTES, NOTHING_NEW, POINTER, Cause, CFollower, CSpec, Dtype, HoundError, Info, Path, Repair,
+    check_header, function, info_from, integer,
 )  # fmt: skip
 from ._recorder import repaired
 from .parts import part_name
@@ -196,7 +196,7 @@ class _Pace:
     """When the next look is taken, and when a lock is asked for."""
 
     def __init__(self, path: Path, timeout: Optional[float], poll: float, idle: float) -> None:
-        self._path, self._timeout, self._poll, self._idle = path, timeout, poll, idle
+        self._path, self._timeout, self._poll, self.idle = path, timeout, poll, idle
         self.begin()
 
     def begin(self) -> None:
@@ -208,7 +208,7 @@ class _Pace:
 
     def may_ask(self, has_header: bool) -> bool:
         """Whether the lock may be asked for now."""
-        now, least = time.monotonic(), self._idle if has_header else max(self._idle, _ASKED)
+        now, least = time.monotonic(), self.idle if has_header else max(self.idle, _ASKED)
         if now - self._news < least or now - self._asked < _ASKED:
             return False
         self._asked = now
@@ -232,9 +232,12 @@ def _opened(path: Path, pace: _Pace, is_awaited: bool) -> Follower:
         pace.wait()
 
 
-def followers(path: Path, pace: _Pace, timeout: Optional[float], parts: bool) -> Iterator[Follower]:
-    """A follower of each file of a recording, one after the other. A recorder makes and locks the next file before it
-    unlocks one. So where there is none once one has ended, the recording has ended."""
+def followers(
+    path: Path, pace: _Pace, timeout: Optional[float], parts: bool
+) -> Iterator[Tuple[Follower, Optional[Path]]]:
+    """A follower of each file of a recording, one after the other, with the path of the file after it. A recorder
+    makes and locks the next file before it unlocks one. So where there is none once one has ended, the recording has
+    ended."""
     number = 1
     while True:
         pace.begin()
@@ -246,14 +249,27 @@ def followers(path: Path, pace: _Pace, timeout: Optional[float], parts: bool) ->
                 raise
             return
         with follower:
-            yield follower
+            yield follower, part_name(path, number + 1) if parts else None
         if not parts:
             return
         number += 1
 
 
-def looks_at(follower: Follower, frames: int, dtype: Optional[Dtype], always_2d: bool, pace: _Pace) -> Iterator[Any]:
-    """What a follower reads at each look until its recording has ended, also nothing."""
+def _counts_frames(path: Path) -> bool:
+    """Whether the file at a path counts frames by now."""
+    try:
+        with Follower(path) as follower:
+            follower.read(0)
+            return follower.info is not None and follower.info.frames > 0
+    except (OSError, HoundError):
+        return False  # Whoever follows it gets the error.
+
+
+def looks_at(
+    follower: Follower, frames: int, dtype: Optional[Dtype], always_2d: bool, pace: _Pace, after: Optional[Path] = None
+) -> Iterator[Any]:
+    """What a follower reads at each look until its recording has ended, also nothing. A recorder that locks nothing has
+    ended its file, too, once that `after` it counts frames."""
     is_over = False
     while True:
         block = follower.read(frames, dtype, always_2d=always_2d)
@@ -265,6 +281,8 @@ def looks_at(follower: Follower, frames: int, dtype: Optional[Dtype], always_2d:
             return
         elif pace.may_ask(follower.info is not None):
             is_over = not follower.is_recorded()
+        elif after is not None and pace.idle > 0 and _counts_frames(after):
+            is_over = True
         else:
             yield block
             pace.wait()
@@ -306,8 +324,8 @@ def follow(
     pace = pace_of(path, timeout, poll, idle)
 
     def blocks() -> Iterator[Any]:
-        for follower in followers(path, pace, timeout, parts):
-            for block in looks_at(follower, frames, dtype, always_2d, pace):
+        for follower, after in followers(path, pace, timeout, parts):
+            for block in looks_at(follower, frames, dtype, always_2d, pace, after):
                 if len(block):
                     yield block
 

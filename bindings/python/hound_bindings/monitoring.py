@@ -56,9 +56,9 @@ class _Recording:
         """What each look gives, also nothing."""
         options = self._options
         pace = pace_of(self._name, options.timeout, _POLL, options.idle or 0)
-        for follower in followers(self._name, pace, options.timeout, options.parts):
+        for follower, after in followers(self._name, pace, options.timeout, options.parts):
             self.follower = follower
-            yield from looks_at(follower, _BLOCK, dtype, False, pace)
+            yield from looks_at(follower, _BLOCK, dtype, False, pace, after)
             self._say_how_it_was_left(follower)
             self.frames_before += follower.tell()
             self.follower = None

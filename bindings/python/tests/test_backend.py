@@ -152,7 +152,7 @@ class Backend(unittest.TestCase):
             words, library = self.command()
         self.assertEqual(library, "hound_c.dll")
         exports = [word for word in words if word.startswith("/EXPORT:hound_")]
-        self.assertEqual((len(set(exports)), words[-len(exports) - 1]), (56, "/link"))
+        self.assertEqual((len(set(exports)), words[-len(exports) - 1]), (57, "/link"))
         with on("Windows", "amd64"), compilers("gcc"):
             self.assertEqual(self.command()[1], "hound_c.dll")
         with on("Darwin", "arm64"):

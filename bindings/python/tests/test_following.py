@@ -131,6 +131,9 @@ class Following(Followed):
         with hound.Follower(self.path) as follower, unittest.mock.patch("os.pread", noted):
             follower.read()
             self.assertEqual(calls[calls.index((4, 40)) :][:5], [(4, 40), (1, 43), (1, 42), (1, 41), (1, 40)])
+            calls.clear()
+            follower.read()
+            self.assertEqual(calls, [(4, 40)])  # One call of the system where nothing is new.
 
     def test_headers_that_are_not_read(self):
         for content, cause, kind in (
@@ -347,6 +350,15 @@ class Iterations(Followed):
         self.assertEqual(sum(got, []), (SAMPLES + SAMPLES[:4]).tolist() * 10)
         self.assertEqual(len(os.listdir(self.folder)), 7)
         self.assertEqual(sum(map(len, hound.follow(self.path))), 24)
+
+    def test_parts_of_a_recorder_that_locks_nothing(self):
+        """A file has ended where the next one counts frames: only the last one is waited for."""
+        for number in range(1, 12):
+            self.leave(stereo(SAMPLES.tobytes()), hound.parts.part_name(self.path, number))
+        self.leave(stereo(b""), hound.parts.part_name(self.path, 12))
+        begun = time.monotonic()
+        self.assertEqual(list(hound.follow(self.path, idle=1.5, parts=True)), [SAMPLES] * 11)
+        self.assertTrue(3 <= time.monotonic() - begun < 12)
 
     def test_the_last_look_comes_after_the_lock(self):
         """The recorder makes its last checkpoint, and ends, when the lock is asked for."""
