@@ -346,7 +346,8 @@ void hound_repairer_begin(uint64_t length, uint32_t mode, hound_repairer *repair
    between two writes: of all that there is, the RIFF size, the data length, the pad byte. So there are at most seven
    effects that write or sync, and a look at a file reads few parts of it: after each effect that is reported as done
    fewer are left, whatever was read. A part that was read in fewer bytes than the file has of it by its length is
-   HOUND_ENDED, because what wasn't read may be a chunk. After an error, or where it was stopped, the file can be
+   HOUND_ENDED, because what wasn't read may be a chunk; and so is a part of the header of which more was read, because
+   the file has grown. After an error, or where it was stopped, the file can be
    repaired by another repairer. Where nothing is to be written it syncs nothing: so after a repair that was stopped
    before its last sync, a loss of power may leave the file as it was before that. */
 int32_t hound_repairer_next(hound_repairer *repairer, hound_repair_t *found) HOUND_NONNULL;

@@ -1159,6 +1159,24 @@ static void short_reads(void) {
         }
 }
 
+/* A repairer of a file that has grown since requests no part of the header after the length that it was given. */
+static void grown_file(void) {
+    uint8_t file[12 + 8 * 100];
+    memcpy(file, "RIFF....WAVE", 12);
+    for (size_t at = 12; at < sizeof file; at += 8) memcpy(file + at, "junk\0\0\0\0", 8);
+    for (uint64_t length = 0; length < 100; length++) {
+        hound_repairer repairer;
+        hound_repair_t found;
+        int32_t code;
+        hound_repairer_begin(length, HOUND_FIND_DAMAGE, &repairer);
+        while ((code = hound_repairer_next(&repairer, &found)) == 1) {
+            must(repairer.effect.kind == HOUND_READ && repairer.effect.place <= length, "a part after the end");
+            read_part(file, sizeof file, &repairer.effect);
+        }
+        must(code == HOUND_ENDED, "a header of which more was read than the file has");
+    }
+}
+
 static void floats(void) {
     hound_spec spec = {48000, 1, 32, 0, HOUND_FLOAT};
     uint32_t patterns[3] = {0x7fc12345, 0x80000000, 1}, back[3];
@@ -1388,6 +1406,7 @@ int main(void) {
     short_rests();
     missing_pad_byte();
     short_reads();
+    grown_file();
     floats();
     repairs();
     repairs_to_the_end();

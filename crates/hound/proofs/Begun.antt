@@ -11,7 +11,7 @@ use Rattle.hound_spec.proofs.HeaderLemmas.{data_start_least, described, header-p
 use Rattle.hound_medium.specs.{MediumState, moment, overlay, placed}
 use Rattle.hound_medium.proofs.Overlays.{length-put_at, overlay_at_end, take-placed}
 use Rattle.hound_durable.specs.{SurvivesLoss}
-use Rattle.hound_writer.specs.{DoesBeginnings, HasAtMostHeader, LeavesBeginning, Opened, Remains, beginning, field, stores_name}
+use Rattle.hound_writer.specs.{DoesBeginnings, HasAtMostHeader, LeavesBeginning, Opened, Remains, beginning, stores_name}
 pub use Rattle.hound_repair.proofs.Performing.{nth_next}
 use Rattle.hound_writer.proofs.Opening.{front_begun}
 

@@ -2,7 +2,7 @@
 use hound::{Decode, Source, Task, WavReader, WavWriter};
 use hound_callers::{
     look_and_repair, open_written, publish, read_block, read_from, read_memory, record_at_once,
-    reopen, repair_by_requests, sample_at, samples_of, written_and_read,
+    reopen, repair_by_requests, sample_at, samples_of, through_a_float, written_and_read,
 };
 use hound_test_helpers::{
     FOUR_SAMPLES, NO_SAMPLES, empty_tape, name_of_answer, sixteen, tape_of, without_medium,
@@ -84,6 +84,17 @@ fn an_integer_comes_back(rt: HostRuntime) -> Result<(), Fail> {
     ];
     assert_eq!(rt; read, [-128, 8_388_607, i32::MIN]);
     assert!(rt; written_and_read(128, 8, 1).is_err());
+    Ok(())
+}
+
+#[test]
+fn an_integer_comes_back_from_a_float(rt: HostRuntime) -> Result<(), Fail> {
+    let back = (
+        through_a_float(-8_388_608, 24),
+        through_a_float(8_388_607, 24),
+        through_a_float(-1, 8),
+    );
+    assert_eq!(rt; back, (-8_388_608, 8_388_607, -1));
     Ok(())
 }
 

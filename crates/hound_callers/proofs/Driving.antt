@@ -36,49 +36,7 @@ use Rattle.std.proofs.Common.{
   arith,
 }
 use Rattle.std.specs.Prelude.{⊤}
-use Rattle.hound.specs.{
-  Action,
-  Asked,
-  Begun,
-  Directed,
-  Effect,
-  Known,
-  Log,
-  MediumState,
-  Performs,
-  PutsAt,
-  WavSpecEx,
-  block_known,
-  cut_known,
-  marked,
-  publish,
-  whole_containers,
-  write,
-  BeginsBlock,
-  CanSave,
-  CannotSave,
-  EffectEnds,
-  EndsEffect,
-  GoesOn,
-  HasEnded,
-  HasNext,
-  HasNoNext,
-  IsAlive,
-  IsClear,
-  MaySave,
-  Phase,
-  Recorder,
-  RecorderError,
-  Report,
-  Settles,
-  Advances,
-  ThenGoesOn,
-  after_block,
-  cuts_next,
-  doubted,
-  end_place,
-  saved as once_saved,
-}
+use Rattle.hound.specs.{Action, Asked, Begun, Directed, Effect, Known, Log, MediumState, Performs, PutsAt, WavSpecEx, block_known, cut_known, marked, publish, whole_containers, write, BeginsBlock, CanSave, CannotSave, EffectEnds, EndsEffect, GoesOn, HasEnded, HasNext, IsAlive, MaySave, Phase, Recorder, RecorderError, Report, Settles, Advances, ThenGoesOn, after_block, cuts_next, doubted, end_place, saved as once_saved}
 use Rattle.hound.specs.declared.Action.TheVariants.{Shorten, Perform, Read, WriteBlock}
 use Rattle.hound.specs.declared.Health.TheVariants.{Sound, Suspect}
 use Rattle.hound.specs.declared.Phase.TheVariants.{Idle, Saving, Requested, Writing, Cleaning}
@@ -94,7 +52,7 @@ use Rattle.hound.specs.declared.RecorderError.TheVariants.{
   SyncFailed,
 }
 use Rattle.hound.proofs.Recorders.{not_done}
-use Rattle.hound_callers.specs.Recorder.{IsAsked, asked_as, length_after, once_done, report_for}
+use Rattle.hound_callers.specs.Recorder.{HasRequest, asked_as, length_after, once_done, report_for}
 
 -- what an action does, whose end is reported: a medium is neither read nor cut off
 abbrev pub DoesAction : Action → List ℕ → Report → MediumState → MediumState → Type 0
@@ -223,7 +181,7 @@ shape b r mid effect outcome saving rest goes ended =
     let (other, ends) = ended_next b r mid effect outcome saving rest goes ended in
     shape_by b r mid other outcome ends
 
-pub begins : (asked : Recorder) (n : ℕ) → IsAsked asked n → IsWithin asked Pending asked None
+pub begins : (asked : Recorder) (n : ℕ) → HasRequest asked n → IsWithin asked Pending asked None
 begins asked n (_, _, _, inl saving) = inl (saving, refl, refl)
 begins asked n (_, _, _, inr (waiting, _)) = inr (inl (asked.data_length + n, waiting, refl, refl, refl))
 
@@ -282,7 +240,7 @@ same_written a b is = cc is
 same_waiting : (a b : ℕ) → Requested a ≡ Requested b → a ≡ b
 same_waiting a b is = cc is
 
-module _ (asked : Recorder) (n : ℕ) (is_asked : IsAsked asked n) where
+module _ (asked : Recorder) (n : ℕ) (is_asked : HasRequest asked n) where
   -- nothing failed before a block that is requested
   is_clean : (k : ℕ) → asked.phase ≡ Requested k → asked.health ≡ Sound
   is_clean k waiting = by is_asked.3
@@ -620,7 +578,7 @@ KnownAt s file known asked block m (Some b) r =
     Directed s file (known ++ marked (asked_as s asked block) b ∷ []) r m
 
 module _ (s : WavSpecEx) (file : Begun) (known : List Known) (asked : Recorder) (block : List ℕ)
-    (is_asked : IsAsked asked (length block)) (report : Report) (before : MediumState) (end : Log) where
+    (is_asked : HasRequest asked (length block)) (report : Report) (before : MediumState) (end : Log) where
   abbrev pub Before : Option Bool → Recorder → Type 0
   Before over r = KnownAt s file known asked block before over r
 

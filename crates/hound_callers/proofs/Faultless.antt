@@ -1,79 +1,14 @@
 -- What a loop does that performs one action after the other, if none of them fails, and how it fails else.
 use Rattle.std.proofs.lemmas.Grind.{common_steps}
 use Rattle.std.proofs.lemmas.Bool.{false≢true}
-use Rattle.std.proofs.Common.{
-  List,
-  [],
-  ◌∷◌,
-  length,
-  get_or,
-  ◌*◌,
-  ◌≡◌,
-  ◌⊎◌,
-  ◌<◌,
-  ◌≤◌,
-  ◌+◌,
-  ◌-◌,
-  ℕ,
-  zero,
-  suc,
-  Bool,
-  true,
-  false,
-  inl,
-  inr,
-  Option,
-  None,
-  Some,
-  Result,
-  Ok,
-  Err,
-  is_ok,
-  refl,
-  sym,
-  ◌∙◌,
-  ap,
-  subst,
-  take,
-  drop,
-  drop-cons,
-  arith,
-}
-use Rattle.std.specs.Prelude.{⊤, ◌^◌, IsErrAnd, slice_index_or}
+use Rattle.std.proofs.Common.{List, [], ◌∷◌, length, get_or, ◌*◌, ◌≡◌, ◌⊎◌, ◌<◌, ◌≤◌, ◌+◌, ℕ, zero, suc, Bool, true, false, inl, inr, Option, None, Some, Result, Ok, Err, refl, sym, ◌∙◌, ap, subst, take, drop, drop-cons, arith}
+use Rattle.std.specs.Prelude.{⊤, IsErrAnd, slice_index_or}
 use Rattle.std.specs.Borrow.{Bor}
 use Rattle.std.specs.List.{AllByRecursion}
-use Rattle.hound.specs.{
-  Action,
-  Advances,
-  BeginsBlock,
-  CannotSave,
-  Effect,
-  EffectEnds,
-  EndsEffect,
-  GoesOn,
-  HasData,
-  HasEnded,
-  HasNext,
-  IsAlive,
-  MaySave,
-  MediumState,
-  Phase,
-  Recorder,
-  RecorderError,
-  Report,
-  Settles,
-  TakesBlock,
-  ThenGoesOn,
-  cuts_next,
-  error_for,
-  given_up,
-  health_after,
-  length_with,
-}
+use Rattle.hound.specs.{Action, Advances, BeginsBlock, CannotSave, Effect, EndsEffect, GoesOn, HasData, HasEnded, IsAlive, MediumState, NoFault, Phase, Recorder, RecorderError, Report, Settles, TakesBlock, ThenGoesOn, error_for, given_up, health_after, length_with}
 use Rattle.hound.specs.declared.Action.TheVariants.{Shorten, Perform, Read, WriteBlock}
-use Rattle.hound.specs.declared.Effect.TheVariants.{Pad, Size, Sync}
 use Rattle.hound.specs.declared.Health.{Health}
-use Rattle.hound.specs.declared.Health.TheVariants.{Sound, Suspect, Dead}
+use Rattle.hound.specs.declared.Health.TheVariants.{Sound}
 use Rattle.hound.specs.declared.Phase.TheVariants.{Idle, Saving, Requested, Writing, Cleaning}
 use Rattle.hound.specs.declared.Report.TheVariants.{Done, Failed, Pending}
 use Rattle.hound.specs.declared.RecorderError.TheVariants.{
@@ -89,12 +24,11 @@ use Rattle.hound.specs.declared.RecorderError.TheVariants.{
 use Rattle.hound.proofs.Recorders.{not_done}
 use Rattle.hound_callers.specs.Recorder.{
   CountsFaults,
-  IsAsked,
+  HasRequest,
   IsFailure,
   IsFull,
   IsRejected,
   IsPerformable,
-  NoFault,
   TakesNoMore,
   once_done,
   once_mended,
@@ -145,7 +79,7 @@ begun_data : (n : ℕ) (old new : Recorder) → BeginsBlock n old new → HasDat
 begun_data n old new (inl (writing, is)) has = subst (λ (r : Recorder). HasData r r.data_length) (sym is) has
 begun_data n old new (inr (waiting, due, is)) has = subst (λ (r : Recorder). HasData r r.data_length) (sym is) has
 
-pub faultless_laws : (asked : Recorder) (n : ℕ) (report : Report) → IsAsked asked n → (report ≡ Failed → ⊥)
+pub faultless_laws : (asked : Recorder) (n : ℕ) (report : Report) → HasRequest asked n → (report ≡ Failed → ⊥)
     → Laws asked report FaultlessAt FaultlessAt (λ _. ⊤)
 faultless_laws asked n report is_asked fine = record {
   same = λ pending over r known. known;
@@ -261,7 +195,7 @@ within_data asked r report over (inr (inr (inr (n, waiting, is, _)))) has =
 
 -- what is next is performed by a medium, as long as nothing has failed
 pub is_performable : (asked r : Recorder) (n : ℕ) (report : Report) (over : Option Bool) (action : Action)
-    → IsAsked asked n → IsWithin asked report r over → FaultlessAt over r → GoesOn r r (Ok (Some action))
+    → HasRequest asked n → IsWithin asked report r over → FaultlessAt over r → GoesOn r r (Ok (Some action))
     → IsPerformable action
 is_performable asked r n report over (Perform effect) is_asked within known goes = tt
 is_performable asked r n report over (WriteBlock at len) is_asked within known goes = tt
@@ -280,16 +214,16 @@ is_performable asked r n report over (Shorten at) is_asked (inr (inr (inr (k, wa
 
 -- where none of two calls failed, neither of them did
 pub no_fault_before : (a b c : MediumState) → CountsFaults a b → CountsFaults b c → NoFault a c → NoFault a b
-no_fault_before a b c one two (low, same) =
+no_fault_before a b c one two (same, low) =
     let (up, most) = one (omega (arith, low)) in
     let (more, _) = two most in
-    (low, omega (arith, up, more, same))
+    (omega (arith, up, more, same), low)
 
 pub no_fault_after : (a b c : MediumState) → CountsFaults a b → CountsFaults b c → NoFault a c → NoFault b c
-no_fault_after a b c one two (low, same) =
+no_fault_after a b c one two (same, low) =
     let (up, most) = one (omega (arith, low)) in
     let (more, _) = two most in
-    (omega (arith, low, up, more, same), omega (arith, up, more, same))
+    (omega (arith, up, more, same), omega (arith, low, up, more, same))
 
 pub faults_add : (a b c : MediumState) → CountsFaults a b → CountsFaults b c → CountsFaults a c
 faults_add a b c one two least =

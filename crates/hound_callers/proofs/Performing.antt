@@ -12,7 +12,7 @@ use Rattle.hound.specs.declared.Phase.{Phase}
 use Rattle.hound.specs.declared.Phase.TheVariants.{Idle, Saving, Requested, Writing, Cleaning}
 use Rattle.hound.specs.declared.Report.TheVariants.{Pending}
 use Rattle.hound.specs.declared.RecorderError.TheVariants.{NotWritable, UnfinishedFrame, TooLong, Truncated, NeedsMend, NeedsOverwrite, NeedsCheckpoint, SyncFailed}
-use Rattle.hound_callers.specs.Recorder.{IsDirected, IsFree, IsReady, IsRejected, ReadsBlocks, Saves, Stops, StopsAt, StopsIn, samples_of}
+use Rattle.hound_callers.specs.Recorder.{IsDirected, IsFree, IsReady, IsRejected, ReadsBlocks, Saves, Stops, StopsSaving, StopsIn, samples_of}
 use Rattle.hound_callers.specs.Recording.{published_calls}
 use Rattle.hound_callers.proofs.Publishing.{accepted, last_call}
 
@@ -114,16 +114,16 @@ at_err (Err e) err here = here
 -- a block wasn't saved, or none is left
 pub none_saved : (s : WavSpecEx) (r : Recorder) (blocks : List (Bor (List ℕ))) (i : ℕ) (d : Bor (List ℕ))
     (more : List (Asked × Bool)) → i < length blocks → StopsIn s r (get_or blocks i d) more
-    → StopsAt s r (drop i blocks) more
+    → StopsSaving s r (drop i blocks) more
 none_saved s r blocks i d more inside stops = rw (drop-cons blocks i d inside) stops
 
 pub none_left : (s : WavSpecEx) (r : Recorder) (blocks : List (Bor (List ℕ))) (n : ℕ) → length blocks ≤ n
-    → StopsAt s r (drop n blocks) []
+    → StopsSaving s r (drop n blocks) []
 none_left s r blocks n all = let none : drop n blocks ≡ [] = grind (arith, common_steps) in rw none refl
 
 -- the calls that stopped accepted nothing, unless a checkpoint failed
 stopped_none : (s : WavSpecEx) (r : Recorder) (blocks : List (Bor (List ℕ))) (more : List (Asked × Bool))
-    → StopsAt s r blocks more → AllByRecursion (λ (one : Known). one.asked ≡ publish → ⊥) (seen more)
+    → StopsSaving s r blocks more → AllByRecursion (λ (one : Known). one.asked ≡ publish → ⊥) (seen more)
     → accepted_as_seen more ≡ []
 stopped_none s r [] more is none = ap accepted_as_seen is
 stopped_none s r (block ∷ blocks) more (inl (rejected, is)) none = ap accepted_as_seen is
@@ -134,7 +134,7 @@ stopped_none s r (block ∷ blocks) more (inr (inr is)) none = absurd ((rw is at
 reads_saved : (s : WavSpecEx) (file : Begun) (blocks : List (Bor (List ℕ))) (r : Recorder)
     (left : List (Bor (List ℕ))) (more : List (Asked × Bool)) (log : Log) (m : MediumState)
     → KeptWithin log_kind s file (seen (published_calls (samples_of s) blocks ++ more)) log m
-    → log.state ≡ m → StopsAt s r left more
+    → log.state ≡ m → StopsSaving s r left more
     → AllByRecursion (λ (one : Known). one.asked ≡ publish → ⊥) (seen more) → 0 < length blocks
     → ReadsBlocks s file blocks m.contents
 reads_saved s file blocks r left more log m kept here stops none some frames =
@@ -165,7 +165,7 @@ pub saves : (s : WavSpecEx) (file : Begun) (blocks : List (Bor (List ℕ))) (n :
     → n ≤ length blocks
     → ((known : List Known) (r : Recorder) (m : MediumState) → Directed s file known r m → r.number ≡ 0
     → (log : Log) × (log.state ≡ m) × KeptWithin log_kind s file known log m)
-    → (more : List (Asked × Bool)) × StopsAt s r (drop n blocks) more × (r.number ≡ 0)
+    → (more : List (Asked × Bool)) × StopsSaving s r (drop n blocks) more × (r.number ≡ 0)
     × IsDirected s file (seen (published_calls (samples_of s) (take n blocks) ++ more)) r m
     → Saves s file blocks n m
 saves s file blocks n r m within keeps (more, stops, none, (once, directed, repeats)) =

@@ -3,7 +3,7 @@ use Rattle.std.proofs.lemmas.Bool.{false≢true}
 use Rattle.std.proofs.Common.{List, [], ◌∷◌, length, is_ok, ◌≡◌, ◌⊎◌, ◌<◌, ◌≤◌, ◌+◌, ◌-◌, ◌*◌, ℕ, Bool, true, false, inl, inr, Option, None, Some, Result, Ok, Err, refl, sym, ◌∙◌, ap, subst, arith, zero, suc}
 use Rattle.std.specs.Prelude.{⊤}
 use Rattle.std.specs.declared.io.Error.{Error as IoFault}
-use Rattle.hound.specs.{Action, Advances, AreBytes, Begun, Directed, Effect, Flushes, Known, WavSpecEx, BeginsBlock, GoesOn, HasNoNext, IsAlive, IsClear, IsSaid, Log, MediumState, PutsAt, Recorder, RecorderError, Repeats, Report, Settles, bytes_of, end_place, ThenGoesOn, written_first}
+use Rattle.hound.specs.{Action, Advances, AreBytes, Begun, Directed, Flushes, Known, WavSpecEx, BeginsBlock, GoesOn, IsAlive, IsClear, IsSaid, Log, MediumState, PutsAt, Recorder, RecorderError, Repeats, Report, Settles, bytes_of, ThenGoesOn, written_first}
 use Rattle.hound.specs.declared.Action.TheVariants.{Shorten, Perform, Read, WriteBlock}
 use Rattle.hound.specs.declared.Effect.TheVariants.{Pad, Size, Sync}
 use Rattle.hound.specs.declared.Health.TheVariants.{Dead}

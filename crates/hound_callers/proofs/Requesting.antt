@@ -1,12 +1,14 @@
 -- Requests of a repair that a caller performs.
-use Rattle.std.proofs.Common.{◌≡◌, ◌⊎◌, ℕ, Bool, false, List, ◌∷◌, Ok, Err, inl, inr, refl, sym, ap, ◌∙◌, subst}
+use Rattle.std.proofs.Common.{◌≡◌, ◌⊎◌, ℕ, ◌+◌, ◌-◌, ◌*◌, ◌<◌, arith, Bool, false, List, ◌∷◌, Ok, Err, inl, inr, refl, sym, ap, ◌∙◌, subst}
 use Rattle.hound.specs.{Action, AsksNext, DoesFor, FailedAction, IsRequest, IsPartlyRepaired, IsRejectedFor, IsUnderRepair, MediumState, PutsNothing, RepairError, Repairing, Report, Task, Unrepairable, one_more}
 use Rattle.hound.specs.declared.Action.TheVariants.{Perform, Read, Shorten, WriteBlock}
 use Rattle.hound.specs.declared.RepairError.TheVariants as errors
 use Rattle.hound.specs.declared.RepairStep.TheVariants.{Asks}
 use Rattle.hound.specs.declared.Repairing.TheVariants as states
 use Rattle.hound.specs.declared.Report.TheVariants.{Done, Failed, Pending}
-use Rattle.hound_callers.specs.Repairer.{AreReported, IsNotRepairedBy, faults_by}
+use Rattle.hound_callers.proofs.Driving.{step_of}
+use Rattle.hound_callers.specs.Recorder.{AreAllKept}
+use Rattle.hound_callers.specs.Repairer.{IsNotRepairedBy, faults_by}
 
 -- a report that is lost says nothing
 pub lost_report : (keeps : Bool) (action : Action) (bytes : List ℕ) (report : Report) (old new : MediumState)
@@ -30,9 +32,20 @@ pub one_fault : (report : Report) (faults : ℕ) → report ≡ Failed → fault
 one_fault report faults is = subst (λ r. faults_by r faults ≡ one_more faults) (sym is) refl
 
 -- of the reports those after the first
-pub reported_rest : (lost rest : List Bool) (one : Bool) → lost ≡ one ∷ rest → AreReported lost
-    → (one ≡ false) × AreReported rest
-reported_rest lost rest one is all = subst AreReported is all
+pub reported_rest : (lost rest : List Bool) (one : Bool) → lost ≡ one ∷ rest → AreAllKept lost
+    → (one ≡ false) × AreAllKept rest
+reported_rest lost rest one is all = subst AreAllKept is all
+
+-- once a request is performed and reported, fewer are left, or as many and a report of the last one
+pub fewer_left : (was next : Report) (before after lost : ℕ) → (was ≡ Done → after < before)
+    → (was ≡ Pending → after ≡ before) → (was ≡ Failed → ⊥) → (next ≡ Pending → ⊥)
+    → 2 * after + (1 - step_of next) + 2 * lost < 2 * before + (1 - step_of was) + 2 * lost
+fewer_left was Pending before after lost fewer same never said = absurd (said refl)
+fewer_left Done Done before after lost fewer same never said = omega (arith, fewer refl)
+fewer_left Done Failed before after lost fewer same never said = omega (arith, fewer refl)
+fewer_left Pending Done before after lost fewer same never said = omega (arith, same refl)
+fewer_left Pending Failed before after lost fewer same never said = omega (arith, same refl)
+fewer_left Failed next before after lost fewer same never said = absurd (never refl)
 
 -- a repair that has failed requests nothing
 failed_asks : (task : Task) (n : ℕ) (old mid : MediumState) (was : Repairing) (action : Action) (failure : FailedAction)
@@ -49,7 +62,7 @@ pub not_repaired : (task : Task) (n : ℕ) (old mid new : MediumState) (was next
     → IsPartlyRepaired task old new)
     → ((failure : FailedAction) → error ≡ errors.Failed failure → (report ≡ Failed) ⊎ (was ≡ states.Failed failure))
     → IsUnderRepair task n old was (Ok (Asks action)) mid → IsUnderRepair task n old next (Err error) new
-    → (AreReported lost → new.faults ≡ faults_by report old.faults) → IsNotRepairedBy task lost error old new
+    → (AreAllKept lost → new.faults ≡ faults_by report old.faults) → IsNotRepairedBy task lost error old new
 not_repaired task n old mid new was next action report lost (errors.Rejected why) rejects fails only under is faults =
     rejects why is
 not_repaired task n old mid new was next action report lost (errors.Failed failure) rejects fails only under is faults =

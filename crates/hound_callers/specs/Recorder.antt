@@ -78,6 +78,7 @@ use Rattle.hound.specs.{
   Known,
   Log,
   MediumState,
+  NoFault,
   Performed,
   Phase,
   PutsAt,
@@ -165,8 +166,8 @@ IsReady r = (r.number ≡ 0) × (r.health ≡ Sound) × IsFree r.phase × (r.has
     × (20 ≤ r.data_start) × (1 ≤ r.channels) × (1 ≤ r.bytes_per_sample)
 
 -- a recorder was requested a checkpoint, or, where nothing failed, a block of so many bytes
-abbrev pub IsAsked : Recorder → ℕ → Type 0
-IsAsked r n = (r.number ≡ 0) × IsAlive r × (r.has_rest ≡ false)
+abbrev pub HasRequest : Recorder → ℕ → Type 0
+HasRequest r n = (r.number ≡ 0) × IsAlive r × (r.has_rest ≡ false)
     × ((r.phase ≡ Saving) ⊎ ((r.phase ≡ Requested (r.data_length + n)) × (r.health ≡ Sound)))
 
 -- how many bytes the data have once that is done
@@ -214,10 +215,6 @@ IsRejected r block = (length block.now % r.bytes_per_sample ≡ 0 → ⊥)
     ⊎ (length block.now / r.bytes_per_sample % r.channels ≡ 0 → ⊥)
     ⊎ (greatest_u32 < riff_size r.data_start (r.data_length + length block.now))
 
--- no call of a medium failed between these two states of it
-abbrev pub NoFault : MediumState → MediumState → Type 0
-NoFault old new = (old.faults < 2 ^ 64 - 1) × (new.faults ≡ old.faults)
-
 -- a medium counts the calls that fail, as far as 64 bits do
 abbrev pub CountsFaults : MediumState → MediumState → Type 0
 CountsFaults old new = old.faults ≤ 2 ^ 64 - 1 → (old.faults ≤ new.faults) × (new.faults ≤ 2 ^ 64 - 1)
@@ -263,9 +260,9 @@ StopsIn s r block calls = (IsRejected r block × (calls ≡ [])) ⊎ (calls ≡ 
     ⊎ (calls ≡ (write (samples_of s block), true) ∷ (publish, false) ∷ [])
 
 -- those after which the first of these blocks wasn't saved
-abbrev pub StopsAt : WavSpecEx → Recorder → List (Bor (List ℕ)) → List (Asked × Bool) → Type 0
-StopsAt s r [] calls = calls ≡ []
-StopsAt s r (block ∷ blocks) calls = StopsIn s r block calls
+abbrev pub StopsSaving : WavSpecEx → Recorder → List (Bor (List ℕ)) → List (Asked × Bool) → Type 0
+StopsSaving s r [] calls = calls ≡ []
+StopsSaving s r (block ∷ blocks) calls = StopsIn s r block calls
 
 -- after these calls the saving of a block has stopped
 abbrev pub Stops : WavSpecEx → Begun → List Known → Bor (List ℕ) → Recorder → MediumState → Type 0
@@ -306,7 +303,7 @@ ReadsBlocks s file blocks contents =
 -- the file is read as those blocks.
 abbrev pub Saves : WavSpecEx → Begun → List (Bor (List ℕ)) → ℕ → MediumState → Type 0
 Saves s file blocks n m = (more : List (Asked × Bool)) × (r : Recorder) × (log : Log) × Repeats log.state m
-    × StopsAt s r (drop n blocks) more
+    × StopsSaving s r (drop n blocks) more
     × Directed s file (seen (published_calls (samples_of s) (take n blocks) ++ more)) r log.state
     × KeptWithin log_kind s file (seen (published_calls (samples_of s) (take n blocks) ++ more)) log log.state
     × (AllByRecursion (λ (one : Known). one.asked ≡ publish → ⊥) (seen more) → 0 < n →
@@ -338,8 +335,8 @@ CountsAfterLoss f r start end = (sector : ℕ) (left : List ℕ) → 1 ≤ secto
 
 -- That checkpoint was performed, to its end or not: it has published the samples that the recorder keeps, as a `flush`
 -- does, where all of it is done.
-abbrev pub Mends : FoundFile → Recorder → Bool → MediumState → Log → Type 0
-Mends f r done old end = (start : Log) × (answer : Result (Unit {0}) Error) × Resumes f true false (Ok r)
+abbrev pub MakesFirstCheckpoint : FoundFile → Recorder → Bool → MediumState → Log → Type 0
+MakesFirstCheckpoint f r done old end = (start : Log) × (answer : Result (Unit {0}) Error) × Resumes f true false (Ok r)
     × (start.state ≡ old) × (mark_of answer ≡ done)
     × LeavesWriter log_kind answer (writer_of f.spec_ex r start) (writer_of f.spec_ex r end)
     × CountsAfterLoss f r start end
@@ -350,11 +347,11 @@ IsNotContinued f error = Resumes f true false (Err error)
 
 -- the first checkpoint has failed
 abbrev pub IsNotMended : FoundFile → MediumState → MediumState → Type 0
-IsNotMended f old new = (r : Recorder) × (end : Log) × Mends f r false old end × Repeats end.state new
+IsNotMended f old new = (r : Recorder) × (end : Log) × MakesFirstCheckpoint f r false old end × Repeats end.state new
 
 -- The first checkpoint published what the file holds, and blocks were saved after that.
 abbrev pub Continues : FoundFile → MediumState → List (Bor (List ℕ)) → ℕ → MediumState → Type 0
-Continues f old blocks n new = (r : Recorder) × (end : Log) × (samples : ℕ) × Mends f r true old end
+Continues f old blocks n new = (r : Recorder) × (end : Log) × (samples : ℕ) × MakesFirstCheckpoint f r true old end
     × (r.data_length ≡ samples * f.spec_ex.bytes_per_sample)
     × Saves f.spec_ex (resumed_file f.spec_ex samples f.data_start end.state) blocks n new
 

@@ -1,8 +1,8 @@
 -- What a recorder asks of its writer, and what it sees; the checkpoints of a session.
-use Rattle.std.specs.Prelude.{◌≡◌, ◌⊎◌, ℕ, suc, ◌-◌, ◌*◌, ◌/◌, ◌%◌, ◌==◌, Bool, true, false, List, [], ◌∷◌, ◌++◌, Option, None, Some, Result, Ok, Err, IsOk, ◌<◌, ◌≤◌, drop, length, take}
+use Rattle.std.specs.Prelude.{◌≡◌, ◌⊎◌, ℕ, suc, ◌+◌, ◌-◌, ◌*◌, ◌/◌, ◌%◌, ◌==◌, Bool, true, false, List, [], ◌∷◌, ◌++◌, Option, None, Some, Result, Ok, Err, IsOk, ◌<◌, ◌≤◌, drop, length, take}
 use Rattle.std.specs.Borrow.{Bor}
-use Rattle.std.specs.List.{All, flat_map}
-use Rattle.hound.specs.{Ghosts, Accepts, AreKnown, Asked, Begun, Call, Checkpoints, Error, HasPublished, HasRoom, IsFoundAt, IsWhole, KeptWithin, Known, MediumState, ReadsAs, Rejection, Repair, Repairs, SurvivesLoss, WavSpecEx, WriterState, accepted_samples, containers_in, accepted_by_all, found_in, frame_length, found_length, if_marked, is_mended, made, marked, mended, moment, publish, seen, start_of, write}
+use Rattle.std.specs.List.{All, concat, flat_map}
+use Rattle.hound.specs.{Ghosts, Accepts, AreKnown, Asked, Begun, Call, Checkpoints, Error, HasPublished, HasRoom, IsFoundAt, IsWhole, KeptWithin, Known, MediumState, ReadsAs, Rejection, Repair, Repairs, SurvivesLoss, WavSpecEx, WriterState, accepted_samples, containers_in, accepted_by_all, data_start, found_in, frame_length, found_length, greatest_u32, if_marked, is_mended, made, marked, mended, moment, publish, riff_size, seen, start_of, write}
 use Rattle.hound.specs.declared.Error.TheVariants.{OutOfMemory, TooLong}
 
 -- a block is written, and if it is to be published a flush follows
@@ -38,9 +38,9 @@ IsStopped containers calls = (calls ≡ marked (write containers) false ∷ [])
 
 -- the calls with which a recorder stops where these blocks are left: none if there are no blocks, or else those of the
 -- next one
-abbrev pub StopsAt : {V : Type 0} → (V → Result (List (List ℕ)) Rejection) → List V → List Known → Type 0
-StopsAt containers [] calls = calls ≡ []
-StopsAt containers (block ∷ blocks) calls = IsStopped (containers block) calls
+abbrev pub StopsPublishing : {V : Type 0} → (V → Result (List (List ℕ)) Rejection) → List V → List Known → Type 0
+StopsPublishing containers [] calls = calls ≡ []
+StopsPublishing containers (block ∷ blocks) calls = IsStopped (containers block) calls
 
 -- each of these blocks has containers, and these are all of them
 abbrev pub HaveContainers : {V : Type 0} → (V → Result (List (List ℕ)) Rejection) → List V → List (List ℕ) → Type 0
@@ -54,12 +54,32 @@ HaveContainers containers blocks list =
 abbrev pub PublishesBlocks : {V W : Type 0} → Ghosts W → (V → Result (List (List ℕ)) Rejection) →
     WavSpecEx → Begun → List V → ℕ → W → MediumState → Type 0
 PublishesBlocks kind containers s file blocks n durable medium = (more : List Known)
-    × StopsAt containers (drop n blocks) more
+    × StopsPublishing containers (drop n blocks) more
     × (kept : KeptWithin kind s file
     ((seen (published_calls containers (take n blocks)) ++ more) ++ made publish ∷ []) durable medium)
     × (0 < n → (before after : List Call) × (flush : Call)
     × (kept.left.recorded.calls ≡ before ++ (flush ∷ after)) × HasPublished flush
     × HaveContainers containers (take n blocks) (accepted_by_all before))
+
+-- a writer whose data begin at `start` and have `len` bytes rejects a call: a sample has no container, or the sizes
+-- would pass 32 bits
+abbrev pub IsRejectedAfter : ℕ → ℕ → Result (List (List ℕ)) Rejection → Type 0
+IsRejectedAfter start len (Err rejection) = Unit
+IsRejectedAfter start len (Ok list) = greatest_u32 < riff_size start (len + length (concat list))
+
+-- no block is left, or such a writer rejects the next one
+abbrev pub TakesNoBlock : {V : Type 0} → (V → Result (List (List ℕ)) Rejection) → ℕ → ℕ → List V → Type 0
+TakesNoBlock containers start len [] = Unit
+TakesNoBlock containers start len (block ∷ blocks) = IsRejectedAfter start len (containers block)
+
+-- how many bytes of data the containers of blocks are
+abbrev pub bytes_of_blocks : {V : Type 0} → (V → Result (List (List ℕ)) Rejection) → List V → ℕ
+bytes_of_blocks containers blocks = length (concat (flat_map (λ block. if_marked true (containers block)) blocks))
+
+-- a new file has the first n of these blocks, and takes no more
+abbrev pub HasAllThatFit : {V : Type 0} → (V → Result (List (List ℕ)) Rejection) → WavSpecEx → List V → ℕ → Type 0
+HasAllThatFit containers s blocks n =
+    TakesNoBlock containers (data_start s) (bytes_of_blocks containers (take n blocks)) (drop n blocks)
 
 -- a call for samples that failed, or one that was Ok and a flush with this result
 abbrev pub WritesAndFlushes : {M : Type 0} → Ghosts M →

@@ -1,13 +1,9 @@
 -- What a caller does that performs a repair's requests itself.
-use Rattle.std.specs.Prelude.{◌≡◌, ℕ, Bool, false, List}
-use Rattle.std.specs.List.{AllByRecursion}
+use Rattle.std.specs.Prelude.{◌≡◌, ℕ, Bool, List}
 use Rattle.hound.specs.{IsFoundAt, IsPartlyRepaired, IsRejectedFor, IsRepair, LeavesFor, MediumState, PutsNothing, Repair, RepairError, Repairs, Report, Task, looks_for_chunks, mends_for, one_more}
 use Rattle.hound.specs.declared.RepairError.TheVariants as errors
 use Rattle.hound.specs.declared.Report.TheVariants.{Failed}
-
--- no report is lost
-abbrev pub AreReported : List Bool → Type 0
-AreReported = AllByRecursion (λ is_lost. is_lost ≡ false)
+use Rattle.hound_callers.specs.Recorder.{AreAllKept}
 
 -- the faults after a request that was reported so
 abbrev pub faults_by : Report → ℕ → ℕ
@@ -21,11 +17,11 @@ pub record IsRepairedBy (task : Task) (lost : List Bool) (found : Repair) (old n
   pub start : ℕ
   pub is : IsFoundAt (looks_for_chunks task) old.contents found len start
   pub leaves : LeavesFor (mends_for task found.state) found start old new
-  pub repairs : IsRepair task → AreReported lost → Repairs (looks_for_chunks task) old found new
+  pub repairs : IsRepair task → AreAllKept lost → Repairs (looks_for_chunks task) old found new
 
 -- A file isn't repaired: its bytes have this fault, and nothing was written; or a call failed, and the file is at most
 -- partly mended.
 abbrev pub IsNotRepairedBy : Task → List Bool → RepairError → MediumState → MediumState → Type 0
 IsNotRepairedBy task lost (errors.Rejected why) old new = IsRejectedFor old.contents why × PutsNothing old new
 IsNotRepairedBy task lost (errors.Failed failure) old new = IsPartlyRepaired task old new
-    × (AreReported lost → new.faults ≡ one_more old.faults)
+    × (AreAllKept lost → new.faults ≡ one_more old.faults)

@@ -1,7 +1,7 @@
 // Functions of a user of the library, whose contracts follow from its public ones.
 ghost use Rattle.std.specs.Prelude.{◌≡◌, ℕ, ◌/◌, ◌<◌, ◌≤◌, ◌++◌, Bool, ◌⊎◌, false, true, ⊤, List, length, map, ◌∷◌, None, Some, Ok, Err, Result, IfErr, IfOk, IfSome, IsTrue, MatchResult, OnOk};
 ghost use Rattle.std.specs.List.{AllByRecursion, concat};
-ghost use Rattle.hound.specs.{AreContainers, AreKnown, Begun, Call, Checkpoints, Damage, Error, Finishes, HasPublished, Head, IsFoundAt, IsIoError, IsLeftAfter, IsLookedAt, IsNext, IsNoPad, IsSameFile, IsSixteen, IsSoundSpec, IsStored, IsWritable, Keeps, Known, Log, MediumState, OpensAs, Performed, ReaderState, ReadsAs, ReadsFrames, Recorded, Repair, Repairs, RepairsMedium, Seeks, WavSpecEx, WhereKeeps, WhereTells, accepted_by_all, accepted_samples, begins_at, canonical, container_at, containers, found_in, frame_length, held, meaning_at, mending, one_more, rejection_at, repair_of, sample_count, samples_before, samples_left, shown_length, start_of, unread};
+ghost use Rattle.hound.specs.{AreContainers, AreKnown, Begun, Call, Checkpoints, Damage, Error, Finishes, HasPublished, Head, IsFoundAt, IsIoError, IsLeftAfter, IsLookedAt, IsNext, IsNoPad, IsSameFile, IsSixteen, IsSoundSpec, IsStored, IsWritable, Keeps, Known, Log, MediumState, OpensAs, Performed, ReaderState, ReadsAs, ReadsFrames, Recorded, Repair, Repairs, RepairsMedium, Seeks, WavSpecEx, WhereKeeps, WhereTells, accepted_by_all, accepted_samples, begins_at, canonical, container_at, containers, fits, found_in, frame_length, held, meaning_at, mending, one_more, rejection_at, repair_of, sample_count, samples_before, samples_left, shown_length, start_of, unread};
 ghost use Rattle.std.specs.declared.io.Error.{Error as IoFault};
 ghost use Rattle.hound.specs.declared.Error.TheVariants.{OutOfMemory};
 ghost use Rattle.hound.specs.declared.RepairState.TheVariants.{HasChunksAfterData, Whole};
@@ -12,7 +12,8 @@ use hound::{
     a_repair_keeps_stored_samples, a_repair_loses_no_published_sample,
     a_second_repair_writes_nothing, a_seek_leads_to_its_frame, a_stopped_repair_is_done_again,
     a_writer_holds_its_calls, an_iterator_gives_what_it_hints, an_ok_flush_is_kept, effects_mend,
-    find_damage, items_are_of_the_file, one_answer, repair, repair_to_end, written_is_read,
+    find_damage, float_to_int, int_to_float, items_are_of_the_file, one_answer, repair,
+    repair_to_end, scaled_integers_come_back, written_is_read,
 };
 use std::alloc::Global;
 use std::{io, result};
@@ -169,4 +170,15 @@ pub fn a_repair_by_hand_is_done_again()
 {
     effects_mend();
     a_stopped_repair_is_done_again();
+}
+
+/// An integer of up to 24 bits as a float whose full scale is 1, and as an integer of as many bits again: it is the
+/// same one. So an editor that works on floats loses nothing of the samples that it leaves alone.
+pub fn through_a_float(sample: i32, bits: u16) -> i32
+    requires bits { (0 < bits) × (bits ≤ 24) }
+    requires fits { IsTrue (fits bits sample) }
+    ensures { result ≡ sample }
+{
+    scaled_integers_come_back();
+    float_to_int(int_to_float(sample, bits), bits).0
 }

@@ -1,11 +1,11 @@
 // Recorders whose caller performs the effects, on a medium, or on one after the other.
 ghost use Rattle.std.specs.Prelude.{◌≡◌, ◌⊎◌, ◌≤◌, ◌+◌, ℕ, List, [], ◌++◌, ◌∷◌, ◌*◌, Bool, Ok, true, false, if◌then◌else◌, IfErr, IfOk, OnErr, OnOk, Result, drop, is_ok, length, slice_index_or, take};
 ghost use Rattle.std.specs.declared.io.Error.{Error as IoFault};
-ghost use Rattle.hound.specs.{Asked, Begun, Directed, DoesBeginning, DoesBeginnings, Flushes, HasData, IsIoError, IsSaid, IsSynced, IsWritable, Known, Log, MediumState, PutsAt, Readable, Recorder, Repeats, WavSpecEx, WhereKeeps, WhereTells, IsEmpty, Resumes, at_beginning, beginning, data_start, end_of, faults_after, new_file, one_more, overlay, placed, recorder_of, resumed_file, seen};
+ghost use Rattle.hound.specs.{Asked, Begun, Directed, DoesBeginning, DoesBeginnings, Flushes, HasData, IsIoError, IsSaid, IsSynced, IsWritable, Known, Log, MediumState, NoFault, PutsAt, Readable, Recorder, Repeats, WavSpecEx, WhereKeeps, WhereTells, IsEmpty, Resumes, at_beginning, beginning, data_start, end_of, faults_after, new_file, one_more, overlay, placed, recorder_of, resumed_file, seen};
 ghost use Rattle.hound.specs.declared.Phase.TheVariants.{Idle, Saving};
 ghost use Rattle.hound.specs.declared.BeginningEffect.TheVariants.{Empty};
 ghost use Rattle.hound.specs.declared.Report.TheVariants.{Done, Pending};
-ghost use Rattle.hound_callers.specs.Recorder.{CountsDirected, Continues, IsFound, IsNotContinued, IsNotMended, IsResumed, once_mended, IsAsked, IsDirected, IsErrorOf, IsNotBegunBy, IsNotResumed, IsReady, LosesBeginning, PerformsAll, AreAllKept, CountsFaults, IsFailure, IsFull, IsPerformable, IsRejected, NoFault, UnlessFault, Saves, Stops, StopsAt, TriesAction, asked_as, once_done, report_for, samples_of, AreParts, IsPart, run_within};
+ghost use Rattle.hound_callers.specs.Recorder.{CountsDirected, Continues, IsFound, IsNotContinued, IsNotMended, IsResumed, once_mended, HasRequest, IsDirected, IsErrorOf, IsNotBegunBy, IsNotResumed, IsReady, LosesBeginning, PerformsAll, AreAllKept, CountsFaults, IsFailure, IsFull, IsPerformable, IsRejected, UnlessFault, Saves, Stops, StopsSaving, TriesAction, asked_as, once_done, report_for, samples_of, AreParts, IsPart, run_within};
 ghost use Rattle.hound_callers.specs.Recording.{published_calls};
 
 use hound::{
@@ -93,7 +93,7 @@ fn perform_all<M: Medium>(
     lost: &[bool],
     made: &mut usize,
 ) -> result::Result<(), RecorderError>
-    requires asked { IsAsked recorder.old (length block.now) }
+    requires asked { HasRequest recorder.old (length block.now) }
     requires within { made.old ≤ length lost.now }
     ensures within { made.new ≤ length lost.now }
     ensures done { OnOk result (recorder.new ≡ once_done recorder.old) }
@@ -168,7 +168,7 @@ fn save_blocks<M: Medium>(
     ensures within { result ≤ length blocks.now }
     ensures saved { WhereKeeps M.tells M.keeps ((s : WavSpecEx) (file : Begun)
         → IsDirected s file [] recorder.old (M.state medium.old) → (more : List (Asked × Bool))
-        × StopsAt s recorder.new (drop result blocks.now) more × (recorder.new.number ≡ 0)
+        × StopsSaving s recorder.new (drop result blocks.now) more × (recorder.new.number ≡ 0)
         × IsDirected s file (seen (published_calls (samples_of s) (take result blocks.now) ++ more))
         recorder.new (M.state medium.new)) }
     ensures faults { WhereTells M.tells (CountsFaults (M.state medium.old) (M.state medium.new)) }

@@ -1,12 +1,13 @@
 // Recorders that make their calls themselves.
-ghost use Rattle.std.specs.Prelude.{◌≡◌, ◌⊎◌, ◌-◌, ◌/◌, ◌<◌, ◌≤◌, ℕ, Bool, false, true, List, ◌∷◌, ◌++◌, [], Err, Ok, Result, MatchResult, is_ok, IsFalse, IsOk, IfOk, IfErr, IsErrAnd, IsTrue, OnErr, OnOk, drop, length, map, replicate, take};
+ghost use Rattle.std.specs.Prelude.{◌≡◌, ◌⊎◌, ◌+◌, ◌-◌, ◌/◌, ◌<◌, ◌≤◌, ℕ, Bool, false, true, List, ◌∷◌, ◌++◌, [], Err, Ok, Result, MatchResult, is_ok, IsFalse, IsOk, IfOk, IfErr, IsErrAnd, IsTrue, OnErr, OnOk, drop, length, map, replicate, take};
 ghost use Rattle.std.specs.List.{All, concat};
-ghost use Rattle.hound.specs.{Accepts, AcceptsBytes, AreKnown, Asked, Begins, ReadsAs, IsSameFile, Takes, Checkpoints, Error, Finishes, accepted_as_seen, field, found_in, start_of, i16_bytes, whole_containers, IsNotBegun, MediumState, Repair, Repairs, SurvivesLoss, Begun, Call, Known, Left, Recorded, returned, made, marked, new_file, publish, seen, write, int_container, Around, within, Kept, KeptWithin, accepted_by_all, canonical, data_start, AcceptsEach, Ascends, WritesToBatch, containers_in, fits, remaining, signed_bytes_of, ReadsFrames, IsSixteen, Ran, asked_by, containers_of, WhereKeeps, WhereTells, WriterState, IsWhole, accepted_samples, data_length, WavSpecEx, Appends, ChangesSizesOnly, Holds, IsNotAppended, appended};
+ghost use Rattle.hound.specs.{Accepts, AcceptsBytes, AreKnown, Asked, Begins, ReadsAs, IsSameFile, Takes, Checkpoints, Error, Finishes, accepted_as_seen, field, found_in, if_marked, start_of, i16_bytes, whole_containers, IsNotBegun, MediumState, Repair, Repairs, SurvivesLoss, Begun, Call, Known, Left, Recorded, returned, made, marked, new_file, publish, seen, write, int_container, Around, within, Kept, KeptWithin, accepted_by_all, canonical, data_start, AcceptsEach, Ascends, WritesToBatch, containers_in, fits, remaining, signed_bytes_of, ReadsFrames, IsSixteen, IsWritable, Ran, asked_by, containers_of, WhereKeeps, WhereTells, WriterState, IsWhole, accepted_samples, data_length, WavSpecEx, Appends, ChangesSizesOnly, Holds, IsNotAppended, appended};
+ghost use Rattle.hound.specs.declared.Error.TheVariants.{Unsupported};
 ghost use Rattle.hound.specs.declared.RepairState.TheVariants.{HasChunksAfterData};
 ghost use Rattle.hound.specs.declared.session.Begin.TheVariants.{New};
 ghost use Rattle.hound.specs.declared.session.End.TheVariants.{Drop, Finalize};
 ghost use Rattle.hound.specs.declared.session.Step.TheVariants.{Whole};
-ghost use Rattle.hound_callers.specs.Recording.{HaveContainers, IsNoBatch, IsPublished, IsStopped, PublishesBlocks, ReadsSince, StopsAt, WritesAndFlushes, all_asked, block_asks, containers_by, published_calls, recorder_asks};
+ghost use Rattle.hound_callers.specs.Recording.{HasAllThatFit, HaveContainers, IsNoBatch, IsPublished, IsRejectedAfter, IsStopped, PublishesBlocks, ReadsSince, StopsPublishing, TakesNoBlock, WritesAndFlushes, all_asked, block_asks, bytes_of_blocks, containers_by, published_calls, recorder_asks};
 
 use hound::{
     Begin, Durable, End, Error, Medium, Placed, Sample, SampleWriter16, Source, Step, WavSpecEx,
@@ -80,6 +81,13 @@ fn publish_block<S: Sample + Copy, M: Medium>(
         → Recorded M.Placed s file known writer.old → (more : List Known)
         × IsStopped (containers_in S.container s block.now) more
         × Recorded M.Placed s file (known ++ more) writer.new) }
+    ensures start { writer.new.data_start ≡ writer.old.data_start }
+    ensures longer { OnOk result (data_length writer.new ≡ data_length writer.old
+        + length (concat (if_marked true (containers_in S.container writer.old.spec_ex block.now)))) }
+    ensures same_faults { WhereTells M.tells
+        (OnOk result ((M.state writer.new.medium).faults ≡ (M.state writer.old.medium).faults)) }
+    ensures cause { WhereTells M.tells (OnErr result (IsRejectedAfter writer.old.data_start (data_length writer.old)
+        (containers_in S.container writer.old.spec_ex block.now) ⊎ (0 < (M.state writer.new.medium).faults))) }
 {
     writer.write_samples(block)?;
     match writer.flush() {
@@ -93,8 +101,12 @@ fn publish_blocks<S: Sample + Copy, M: Medium>(writer: &mut WavWriter<M>, blocks
     ensures within { result ≤ length blocks.now }
     ensures have { All (λ block. IsOk (containers_by S.container writer.old.spec_ex block)) (take result blocks.now) }
     ensures published { (s : WavSpecEx) (file : Begun) → Recorded M.Placed s file [] writer.old → (more : List Known)
-        × StopsAt (containers_by S.container s) (drop result blocks.now) more × Recorded M.Placed s file
+        × StopsPublishing (containers_by S.container s) (drop result blocks.now) more × Recorded M.Placed s file
         (seen (published_calls (containers_by S.container s) (take result blocks.now)) ++ more) writer.new }
+    ensures cause { WhereTells M.tells ((M.state writer.old.medium).faults ≡ 0 → (M.state writer.new.medium).faults ≡ 0
+        → TakesNoBlock (containers_by S.container writer.old.spec_ex) writer.old.data_start (data_length writer.old
+        + bytes_of_blocks (containers_by S.container writer.old.spec_ex) (take result blocks.now))
+        (drop result blocks.now)) }
 {
     for i in 0..blocks.len() {
         if publish_block(writer, blocks[i]).is_err() {
@@ -112,6 +124,10 @@ fn publish_blocks<S: Sample + Copy, M: Medium>(writer: &mut WavWriter<M>, blocks
 /// blocks, if there are some; and whatever sectors keep what was written since the medium was flushed, what is left
 /// counts, and has lost no sample that a flush has published (`published`). Once that is repaired, the samples of these
 /// blocks are read first, as many as whole frames have, unless a repair that looks for chunks finds some (`safe`).
+///
+/// Unless a call of the medium has failed, all blocks are published, or those before one that is rejected, because a
+/// sample of it has no container or the sizes would pass 32 bits; and then only a spec that can't be written is an
+/// error (`cause`).
 ///
 /// The medium must be new: its place is 0, and nothing has been written to it yet.
 pub fn record_checkpoints<S: Sample + Copy, M: Source + Medium>(
@@ -136,16 +152,24 @@ pub fn record_checkpoints<S: Sample + Copy, M: Source + Medium>(
         (found.spec_ex ≡ spec_ex) × ReadsFrames found (data_start spec_ex) list mended.contents))) }
     ensures rejected { IfErr result (λ rejected. Around (M.state medium) (M.state rejected.0) (λ first last.
         IsNotBegun (⟦<Durable<M> as Placed>⟧) spec_ex first last rejected.1)) }
+    ensures cause { WhereTells M.tells (MatchResult result
+        (λ done. (M.state done.0).faults ≡ 0
+        → HasAllThatFit (containers_by S.container spec_ex) spec_ex blocks.now done.1)
+        (λ rejected. (M.state rejected.0).faults ≡ 0 → (IsWritable spec_ex → ⊥) × (rejected.1 ≡ Unsupported))) }
 {
     what_is_known();
     what_a_loss_leaves::<M>();
     a_repair_loses_no_published_sample();
     let mut writer = match WavWriter::try_new(Durable::new(medium), spec_ex) {
         Ok(writer) => writer,
-        Err((durable, error)) => return Err((durable.into_inner(), error)),
+        Err((durable, error)) => {
+            a_durable_medium_ascends(&durable);
+            return Err((durable.into_inner(), error));
+        }
     };
     let published = publish_blocks(&mut writer, blocks);
     let durable = writer.drop_into();
+    a_durable_medium_ascends(&durable);
     Ok((durable.into_inner(), published))
 }
 

@@ -15,7 +15,7 @@ use Rattle.hound_spec.specs.declared.spec.SampleFormat.{SampleFormat}
 use Rattle.hound_spec.specs.declared.spec.WavSpec.{WavSpec}
 use Rattle.hound_spec.specs.declared.spec.WavSpecEx.{WavSpecEx}
 use Rattle.hound_commands.proofs.Outputs.{appends-none, gets-more, gets-none, gets-stopped, gets-then, gets-written}
-use Rattle.hound_commands.specs.Commands.{failure_of, AnswersSamples, GetsBeginning, GetsBuffered, AreShowable, Shows, ShowsSamples, ShowsUntil, StopsAt, StopsSamples, spec_line, sample_line, sample_lines, show_rejection}
+use Rattle.hound_commands.specs.Commands.{failure_of, AnswersSamples, GetsBeginning, GetsBuffered, AreShowable, Shows, ShowsSamples, ShowsUntil, IsTextUntil, StopsSamples, spec_line, sample_line, sample_lines, show_rejection}
 use Rattle.hound_commands.specs.declared.error.CommandError.{CommandError}
 use Rattle.hound_commands.specs.declared.error.CommandError.TheVariants.{BadNumber, InputOrOutput, Rejected}
 
@@ -174,12 +174,12 @@ part_stops s n left out0 out1 out2 first last stops part =
     ))
 
 whole_stops : (s : WavSpecEx) (n : ℕ) (bytes first text : List ℕ) → AreShowable s n bytes
-    → text ≡ first ++ sample_lines s n bytes → StopsAt s n InputOrOutput bytes first text
+    → text ≡ first ++ sample_lines s n bytes → IsTextUntil s n InputOrOutput bytes first text
 whole_stops s n bytes first text showable text_is =
     (n, omega arith, showable, starts_with_of_eq _ text (sym text_is))
 
 faulted : (s : WavSpecEx) (n : ℕ) (failure : CommandError) (bytes first text : List ℕ)
-    → StopsAt s n failure bytes first text → StopsAt s n InputOrOutput bytes first text
+    → IsTextUntil s n failure bytes first text → IsTextUntil s n InputOrOutput bytes first text
 faulted s n BadNumber bytes first text stops = absurd stops
 faulted s n InputOrOutput bytes first text stops = stops
 faulted s n (Rejected e) bytes first text (some, rejected, text_is) =
@@ -222,11 +222,12 @@ read_stops s (suc k) count (Some rejection) meaning error (Some xs) (Some ys) ne
 read_stops {A} s zero count (Some rejection) meaning error (Some xs) (Some ys) next old new first text lines within same
     (left_is, showable, text_is) got read =
     let is : error ≡ error_of_read rejection = let h = read.0 in cc h in
-    subst (λ e. (text : List ℕ) × StopsAt s count (failure_of e) xs first text × GetsBuffered old new lines text)
+    subst (λ e. (text : List ℕ) × IsTextUntil s count (failure_of e) xs first text × GetsBuffered old new lines text)
     (sym is)
     (first, of rejection (sym same), subst (GetsBuffered old new lines) (text_is ∙ append-nil first) got)
   where
-    of : (r : ReadRejection) → show_rejection s ≡ Some r → StopsAt s count (failure_of (error_of_read r)) xs first first
+    of : (r : ReadRejection) → show_rejection s ≡ Some r
+        → IsTextUntil s count (failure_of (error_of_read r)) xs first first
     of other_format shows = (within, (other_format, shows, refl), refl)
     of (misfit too_wide) shows = (within, (misfit too_wide, shows, refl), refl)
     of (misfit unsupported) shows = (within, (misfit unsupported, shows, refl), refl)
@@ -384,8 +385,8 @@ file_stops (Some xs) (Some ys) s n failure spec samples out0 out1 out2 head firs
         samples = n;
         start = h;
         readable = readable;
-        stops = subst (λ b. StopsAt s n failure b (spec_line s.spec n) text) left_is
-            (subst (λ l. StopsAt s n failure ys l text) first_is stops);
+        stops = subst (λ b. IsTextUntil s n failure b (spec_line s.spec n) text) left_is
+            (subst (λ l. IsTextUntil s n failure ys l text) first_is stops);
       }),
       gets-written out0 out1 out2 text last gets written,
     )

@@ -87,17 +87,17 @@ RejectsSamples s e = (rejection : ReadRejection) × (show_rejection s ≡ Some r
 
 -- What is written where the samples are not all shown, after the text `first`: at a fault, a beginning of the lines of
 -- samples that are there; at any other error, no line of a sample.
-abbrev pub StopsAt : WavSpecEx → ℕ → CommandError → List ℕ → List ℕ → List ℕ → Type 0
-StopsAt s count BadNumber bytes first text = ⊥
-StopsAt s count InputOrOutput bytes first text = (shown : ℕ) × (shown ≤ count)
+abbrev pub IsTextUntil : WavSpecEx → ℕ → CommandError → List ℕ → List ℕ → List ℕ → Type 0
+IsTextUntil s count BadNumber bytes first text = ⊥
+IsTextUntil s count InputOrOutput bytes first text = (shown : ℕ) × (shown ≤ count)
     × AreShowable s shown bytes × StartsWith (first ++ sample_lines s shown bytes) text
-StopsAt s count (Rejected e) bytes first text = (0 < count) × RejectsSamples s e × (text ≡ first)
+IsTextUntil s count (Rejected e) bytes first text = (0 < count) × RejectsSamples s e × (text ≡ first)
 
 -- the same of the output and the buffer, which held `first`
 abbrev pub StopsSamples : WavSpecEx → ℕ → CommandError → Option (List ℕ) → Option (List ℕ)
     → Option (List ℕ) → List ℕ → List ℕ → Type 0
 StopsSamples s count failure left old new first buffered = IfSome left (λ bytes. (text : List ℕ)
-    × StopsAt s count failure bytes first text × GetsBuffered old new buffered text)
+    × IsTextUntil s count failure bytes first text × GetsBuffered old new buffered text)
 
 -- what was shown of so many samples, by the result
 abbrev pub AnswersSamples : WavSpecEx → ℕ → Result (Unit {0}) CommandError → Option (List ℕ) → Option (List ℕ)
@@ -131,7 +131,7 @@ pub record IsShownPart (bytes : List ℕ) (failure : CommandError) (text : List 
   pub samples : ℕ
   pub start : ℕ
   pub readable : Readable bytes s samples start
-  pub stops : StopsAt s samples failure (drop start bytes) (spec_line s.spec samples) text
+  pub stops : IsTextUntil s samples failure (drop start bytes) (spec_line s.spec samples) text
 
 -- at a failure the output got nothing, or a part of the lines of the file that the input's bytes are
 abbrev pub ShowsUntil : Option (List ℕ) → CommandError → Option (List ℕ) → Option (List ℕ) → Type 0

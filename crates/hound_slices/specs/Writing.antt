@@ -92,18 +92,18 @@ GivesHeader s count old new (Err NoRoom) = (new ≡ old) × (length old < data_s
 GivesHeader s count old new (Err error) = (new ≡ old) × IsSizeError s (data_start s) count error
 
 -- samples of a spec whose data begin at a place can be those of a file: its first chunk needs 20 bytes
-abbrev pub HasPlace : WavSpecEx → ℕ → Type 0
-HasPlace s start = IsPair s.spec.sample_format s.spec.bits_per_sample s.bytes_per_sample
+abbrev pub CanBeginAt : WavSpecEx → ℕ → Type 0
+CanBeginAt s start = IsPair s.spec.sample_format s.spec.bits_per_sample s.bytes_per_sample
     × (1 ≤ s.spec.channels) × (20 ≤ start)
 
 -- what the call for the two sizes does: they are the RIFF size and the data length of the file of so many samples whose
 -- data begin at a place, and n is how many bytes that file has
 abbrev pub GivesSizes : WavSpecEx → ℕ → ℕ → List ℕ → List ℕ → Result ℕ CallError → Type 0
-GivesSizes s start count old new (Ok n) = HasPlace s start × IsFile s start count
+GivesSizes s start count old new (Ok n) = CanBeginAt s start × IsFile s start count
     × (n ≡ start + padded (count * s.bytes_per_sample))
     × (take 8 new ≡ bytes_of 4 (riff_size start (count * s.bytes_per_sample))
     ++ bytes_of 4 (count * s.bytes_per_sample)) × (drop 8 new ≡ drop 8 old)
-GivesSizes s start count old new (Err NotWritable) = (new ≡ old) × (HasPlace s start → ⊥)
+GivesSizes s start count old new (Err NotWritable) = (new ≡ old) × (CanBeginAt s start → ⊥)
 GivesSizes s start count old new (Err NoRoom) = (new ≡ old) × (length old < 8)
 GivesSizes s start count old new (Err error) = (new ≡ old) × IsSizeError s start count error
 

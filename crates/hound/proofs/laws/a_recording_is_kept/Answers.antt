@@ -1,4 +1,3 @@
-use Rattle.std.proofs.Common.{true}
 use Rattle.hound_writer.proofs.Directing.{step_ascends}
 use Rattle.hound.proofs.Begun.{begun_survives}
 use Rattle.hound.proofs.Mended.{mended_survives}

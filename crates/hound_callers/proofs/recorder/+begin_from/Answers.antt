@@ -1,7 +1,7 @@
 use Rattle.std.proofs.lemmas.Grind.{common_steps}
 use Rattle.std.proofs.Common.{◌∙◌, ◌≡◌, ◌≤◌, ◌+◌, ℕ, Err, Ok, Some, arith, refl, subst, sym}
 use Rattle.hound.specs.{BeginningEffect, DoesBeginning, Ghosts, IsEmpty, WavSpecEx, beginning, nth}
-use Rattle.hound.specs.declared.BeginningEffect.TheVariants.{Empty, Header, Sync, SyncFolder}
+use Rattle.hound.specs.declared.BeginningEffect.TheVariants.{Empty, SyncFolder}
 use Rattle.hound.proofs.Begun.{nth_next}
 use Rattle.hound_callers.proofs.recorder.+begin_from.Goals as goal
 

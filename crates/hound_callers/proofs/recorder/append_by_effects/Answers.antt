@@ -111,5 +111,5 @@ returns-clause-cause g c kept tells fine =
       start,
       here,
       resumed_full f c.in-Ok.resumed (samples * s.bytes_per_sample) c.args.blocks.now c.save_blocks.result is counted
-          (c.save_blocks.ensures.cause kept tells (omega (arith, fine.0, same), fine.1 ∙ sym same)),
+          (c.save_blocks.ensures.cause kept tells (fine.0 ∙ sym same, omega (arith, fine.1, same))),
     )

@@ -25,4 +25,4 @@ returns-clause-cause g c kept tells fine =
     let M = g.M.Placed in
     let same = c.in_ok-begin_by_effects.ensures.faults tells in
     subst (λ (r : Recorder). IsFull r c.args.blocks.now c.save_blocks.result) c.in-Ok.ensures.1
-    (c.save_blocks.ensures.cause kept tells (omega (arith, fine.0, same), fine.1 ∙ sym same))
+    (c.save_blocks.ensures.cause kept tells (fine.0 ∙ sym same, omega (arith, fine.1, same)))

@@ -19,7 +19,7 @@ use Rattle.std.proofs.Common.{
 }
 use Rattle.hound.specs.{Directed, Recorder, length_with, publish, seen, write}
 use Rattle.hound.specs.declared.Phase.TheVariants.{Saving, Requested}
-use Rattle.hound_callers.specs.Recorder.{IsRejected, Stops, samples_of}
+use Rattle.hound_callers.specs.Recorder.{Stops, samples_of}
 use Rattle.std.proofs.lemmas.Bool.{false≢true}
 use Rattle.hound.proofs.Knowing.{at_ok}
 use Rattle.hound_callers.proofs.Faultless.{asked_data, faults_add, no_fault_after, saved_as, saving_data}

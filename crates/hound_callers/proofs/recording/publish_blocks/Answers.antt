@@ -1,9 +1,10 @@
-use Rattle.std.proofs.Common.{◌++◌, ◌∷◌, [], take, IsOk, arith, sym, ap, ◌∙◌, subst}
+use Rattle.std.proofs.Common.{◌≡◌, ℕ, ◌+◌, true, length, ◌++◌, ◌∷◌, [], take, IsOk, arith, sym, ap, ◌∙◌, subst}
 use Rattle.std.proofs.lemmas.List.Elements.{All-more}
-use Rattle.hound.specs.{Recorded, WavSpecEx, seen}
-use Rattle.hound_callers.specs.Recording.{containers_by, published_calls}
+use Rattle.std.specs.List.{concat}
+use Rattle.hound.specs.{Recorded, WavSpecEx, data_length, if_marked, seen}
+use Rattle.hound_callers.specs.Recording.{bytes_of_blocks, containers_by, published_calls}
 use Rattle.hound.proofs.Knowing.{at_ok}
-use Rattle.hound_callers.proofs.Publishing.{seen_more}
+use Rattle.hound_callers.proofs.Publishing.{more_bytes, seen_more}
 use Rattle.hound_callers.proofs.recording.publish_blocks.Goals as goal
 
 pub loop-i-preserved : goal.loop-i-preserved
@@ -27,4 +28,15 @@ loop-i-preserved g c =
           ∙ sym (seen_more (f x) blocks i _ c.loop-i-test.true))
           (at_ok c.publish_block.result ok c.publish_block.ensures.published x file _
           (c.loop-i.invariant.published x file first));
+      start = c.publish_block.ensures.start ∙ c.loop-i.invariant.start;
+      longer = at_ok c.publish_block.result ok c.publish_block.ensures.longer
+          ∙ (λ j. c.loop-i.invariant.longer j
+          + length (concat (if_marked true (f (c.loop-i.invariant.spec j) (c.index-blocks-i.is j)))))
+          ∙ sym (ap (λ n. data_length c.args.writer.now + n) (more_bytes (f s) blocks i _ c.loop-i-test.true)
+          ∙ sums (data_length c.args.writer.now) (bytes_of_blocks (f s) (take i blocks)) _);
+      same_faults = λ tells. at_ok c.publish_block.result ok (c.publish_block.ensures.same_faults tells)
+          ∙ c.loop-i.invariant.same_faults tells;
     }
+  where
+    sums : (a b c : ℕ) → a + (b + c) ≡ a + b + c
+    sums a b c = omega arith

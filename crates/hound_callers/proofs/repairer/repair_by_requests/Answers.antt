@@ -1,10 +1,10 @@
 use Rattle.std.proofs.lemmas.Result.{err_from_is_err_and}
-use Rattle.std.proofs.Common.{◌≡◌, IsTrue, Ok, Err, take, refl, sym, ap, ◌∙◌, subst, arith}
-use Rattle.hound.specs.{IsUnderRepair, asks_for, first_stage}
+use Rattle.std.proofs.Common.{◌≡◌, IsTrue, Ok, Err, length, take, refl, sym, ap, ◌∙◌, subst, arith}
+use Rattle.hound.specs.{IsUnderRepair, asks_for, effects_left, first_stage}
 use Rattle.hound.specs.declared.RepairStep.TheVariants.{Asks, Found}
 use Rattle.hound.specs.declared.Repairing.TheVariants as states
 use Rattle.hound.specs.declared.Report.TheVariants.{Failed}
-use Rattle.hound_callers.proofs.Requesting.{goes_on, lost_report, no_fault, not_repaired, reported_rest}
+use Rattle.hound_callers.proofs.Requesting.{fewer_left, goes_on, lost_report, no_fault, not_repaired, reported_rest}
 use Rattle.hound_callers.proofs.repairer.repair_by_requests.Goals as goal
 
 pub requests-init : goal.requests-init
@@ -174,3 +174,19 @@ requests-preserved g c =
           let (all, was) = c.requests.invariant.faults tells reported in
           (all, counts was);
     }
+
+pub requests-smaller : goal.requests-smaller
+requests-smaller g c =
+    let task = c.args.task in
+    let n = c.args.length in
+    let action = c.in-Asks.action in
+    let state = c.repair_next.new.state in
+    let next = rw c.in-Asks.is at c.in_ok-action.ensures.next in
+    let bytes = take c.requests.count c.requests.buf in
+    let ends = c.a_repair_ends.ensures in
+    fewer_left c.requests.report c.perform-report.result (effects_left n c.requests.state) (effects_left n state)
+    (length c.requests.lost.now)
+    (λ done. ends.nearer task n bytes c.requests.state state action (rw done at next))
+    (λ pending. ends.again task n bytes c.requests.state state action (rw pending at next))
+    (λ failed. ends.ended task n bytes c.requests.state state action (rw failed at next))
+    c.perform-report.ensures.reported

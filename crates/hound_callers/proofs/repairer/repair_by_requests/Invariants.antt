@@ -1,7 +1,8 @@
 use Rattle.std.proofs.Common.{◌≡◌, ◌+◌, ◌-◌, ◌*◌, ◌≤◌, Ok, length, take}
 use Rattle.hound.specs.{Action, DoesFor, IsSoundRepairing, IsUnderRepair, MediumState, WhereTells, effects_left}
 use Rattle.hound.specs.declared.RepairStep.TheVariants.{Asks}
-use Rattle.hound_callers.specs.Repairer.{AreReported, faults_by}
+use Rattle.hound_callers.specs.Recorder.{AreAllKept}
+use Rattle.hound_callers.specs.Repairer.{faults_by}
 use Rattle.hound_callers.proofs.Driving.{step_of}
 use Rattle.hound_callers.proofs.repairer.repair_by_requests.Given as goal
 
@@ -14,7 +15,7 @@ invariant-requests g l =
       waits : WhereTells M.tells ((mid : MediumState) × (action : Action)
           × IsUnderRepair l.task l.length (M.state l.fn.medium) l.state (Ok (Asks action)) mid
           × DoesFor M.keeps action (take l.count l.buf) l.report mid (M.state l.medium));
-      faults : WhereTells M.tells (AreReported l.fn.lost → AreReported l.lost
+      faults : WhereTells M.tells (AreAllKept l.fn.lost → AreAllKept l.lost
           × ((M.state l.medium).faults ≡ faults_by l.report (M.state l.fn.medium).faults));
     }
 
