@@ -4,26 +4,13 @@ use crate::proved::spec::Error;
 use crate::slices::CallError;
 use std::{error, fmt};
 
-impl Error {
-    // What an error says that has nothing else to say; as a sentence it has a capital and a full stop.
-    fn says(&self) -> &str {
-        match self {
-            Self::IoError(_) => "",
-            Self::FormatError(reason) => reason,
-            Self::TooWide => "the sample has more bits than the destination type",
-            Self::UnfinishedSample => "the number of samples written is not a multiple of the number of channels",
-            Self::Unsupported => "the wave format of the file is not supported",
-            Self::InvalidSampleFormat => "the sample format differs from the destination format",
-        }
-    }
-}
-
 impl fmt::Display for Error {
+    #[allow(deprecated)]
     fn fmt(&self, formatter: &mut fmt::Formatter<'_>) -> fmt::Result {
         match self {
             Error::IoError(error) => error.fmt(formatter),
             Error::FormatError(reason) => write!(formatter, "Ill-formed WAVE file: {reason}"),
-            _ => write!(formatter, "T{}.", &self.says()[1..]),
+            _ => write!(formatter, "T{}.", &error::Error::description(self)[1..]), // A sentence.
         }
     }
 }
@@ -34,7 +21,11 @@ impl error::Error for Error {
     fn description(&self) -> &str {
         match self {
             Error::IoError(error) => error.description(),
-            _ => self.says(),
+            Error::FormatError(reason) => reason,
+            Error::TooWide => "the sample has more bits than the destination type",
+            Error::UnfinishedSample => "the number of samples written is not a multiple of the number of channels",
+            Error::Unsupported => "the wave format of the file is not supported",
+            Error::InvalidSampleFormat => "the sample format differs from the destination format",
         }
     }
 

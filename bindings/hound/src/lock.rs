@@ -15,17 +15,14 @@ pub(crate) fn open_locked(options: &fs::OpenOptions, filename: &path::Path) -> i
     unreachable!("the last attempt returns")
 }
 
-#[cfg(unix)]
+#[cfg_attr(not(unix), allow(unused_variables))]
 fn is_at(file: &fs::File, filename: &path::Path) -> io::Result<bool> {
-    use std::os::unix::fs::MetadataExt;
-    let (opened, found) = (file.metadata()?, fs::metadata(filename));
-    Ok(found.map_or(false, |found| (found.dev(), found.ino()) == (opened.dev(), opened.ino())))
-}
-
-// Elsewhere a file has no number that std knows.
-#[cfg(not(unix))]
-fn is_at(_: &fs::File, _: &path::Path) -> io::Result<bool> {
-    Ok(true)
+    #[cfg(unix)]
+    if let (opened, Ok(found)) = (file.metadata()?, fs::metadata(filename)) {
+        use std::os::unix::fs::MetadataExt;
+        return Ok((found.dev(), found.ino()) == (opened.dev(), opened.ino()));
+    }
+    Ok(!cfg!(unix)) // Elsewhere a file has no number that std knows.
 }
 
 /// Locks an open file until it is closed, in ten attempts 2 ms apart (own): where it is locked already, the error is

@@ -104,13 +104,9 @@ pub struct Output<W> {
 }
 
 impl<W> Output<W> {
-    pub(crate) fn new(inner: W) -> Output<W> {
-        Output { inner, panic: None, disk: None, place: 0, has_gone_back: false, writes_there: None }
-    }
-
-    /// A writer over a file of this crate's own, which is given once more where its flushes are syncs.
-    pub(crate) fn of_file(inner: W, disk: Option<(File, SyncBy)>) -> Output<W> {
-        Output { disk, writes_there: Some(true), ..Output::new(inner) }
+    /// A file is given once more where its flushes are syncs.
+    pub(crate) fn new(inner: W, disk: Option<(File, SyncBy)>, writes_there: Option<bool>) -> Output<W> {
+        Output { inner, panic: None, disk, place: 0, has_gone_back: false, writes_there }
     }
 
     // No call is made after one that panicked, until that goes on, nor where the writer isn't where it was to write.

@@ -52,7 +52,7 @@ fn repair_in(task: Task, mut file: &fs::File) -> Result<Repair> {
     file.stream_position()?; // A pipe has no places.
     let damage = look_by_parts(&mut Input(file), task)?;
     let disk = (file.try_clone()?, fs::File::sync_all as SyncBy);
-    perform_all(&mut Output::of_file(file, Some(disk)), task, damage)?;
+    perform_all(&mut Output::new(file, Some(disk), Some(true)), task, damage)?;
     let machines::Repair { spec_ex, frames, left_over, state } = damage.repair();
     let frame = u32::from(spec_ex.spec.channels) * u32::from(spec_ex.bytes_per_sample);
     Ok(Repair { spec_ex, frames, left_over, state, counted: damage.head.data_length / frame })

@@ -93,18 +93,13 @@ fn rejected<W: Write + Seek>(writer: &mut Writer<W>, reason: SampleError) -> Err
     error_of_sample(reason, &mut writer.fault)
 }
 
-#[inline(always)]
-fn read_one<R: Read, S: Proved>(reader: &mut Reader<R>, spec_ex: WavSpecEx) -> Option<Result<S>> {
-    WavSamples { reader, spec_ex, phantom_sample: PhantomData }.next()
-}
-
 // Reads a sample, and then those after it which the buffer of the file holds: these aren't rejected, and have no fault.
 #[inline(never)]
 fn read_ahead<R: Read, S: Proved + Copy + Default>(
     reader: &mut Reader<R>,
     bits_of: impl Fn(S) -> u32,
 ) -> Option<Result<S>> {
-    let sample = read_one(reader, reader.spec_ex)?;
+    let sample = reader.samples().next()?;
     let (width, left) = (usize::from(reader.spec_ex.bytes_per_sample), reader.samples_left() as usize);
     if let (Ok(_), Some(opened)) = (&sample, reader.reader.reader.0.opened()) {
         let (mut samples, held) = ([S::default(); MOST_AHEAD], opened.file.buffer().len() / width);
@@ -155,7 +150,7 @@ macro_rules! sample {
                 match reader.reader.reader.0.opened().map(|opened| opened.ahead.pop()) {
                     Some(Some(bits)) => Some(Ok($of_bits(bits))),
                     Some(None) => read_ahead(reader, $bits_of),
-                    None => read_one(reader, spec_ex),
+                    None => WavSamples { reader, spec_ex, phantom_sample: PhantomData }.next(),
                 }
             }
 

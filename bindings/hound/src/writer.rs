@@ -50,7 +50,7 @@ impl<W: Write + Seek> WavWriter<W> {
 
     /// The same, with containers of another width.
     pub fn new_with_spec_ex(writer: W, spec_ex: WavSpecEx) -> Result<WavWriter<W>> {
-        WavWriter::over(Writer::try_new(Target::Plain(Output::new(writer)), spec_ex))
+        WavWriter::over(Writer::try_new(Target::Plain(Output::new(writer, None, None)), spec_ex))
     }
 
     fn over(begun: result::Result<Writer<W>, (Target<Output<W>>, Error)>) -> Result<WavWriter<W>> {
@@ -159,7 +159,7 @@ impl<W: Read + Write + Seek> WavWriter<W> {
     pub fn new_append(mut writer: W) -> Result<WavWriter<W>> {
         let head = read_until_data(&mut Input(&mut writer)).map_err(error_of)?;
         let length = writer.seek(SeekFrom::End(0)).ok();
-        WavWriter::after(Target::Plain(Output::new(writer)), head, length)
+        WavWriter::after(Target::Plain(Output::new(writer, None, None)), head, length)
     }
 }
 
@@ -168,7 +168,7 @@ impl WavWriter<io::BufWriter<fs::File>> {
     /// without samples. A file that there was stays as it is where the spec can't be written.
     pub fn create<P: AsRef<path::Path>>(filename: P, spec: WavSpec) -> Result<Self> {
         Recorder::begin(spec.into())?; // It is an error where the spec can't be written.
-        let output = Output::of_file(unbuffered(fs::File::create(filename)?), None);
+        let output = Output::new(unbuffered(fs::File::create(filename)?), None, Some(true));
         WavWriter::over(Writer::try_new(Target::Plain(output), spec.into()))
     }
 
@@ -177,7 +177,7 @@ impl WavWriter<io::BufWriter<fs::File>> {
         let file = fs::OpenOptions::new().read(true).write(true).open(filename)?;
         let head = read_until_data(&mut Input(io::BufReader::new(&file))).map_err(error_of)?;
         let length = (&file).seek(SeekFrom::End(0))?;
-        WavWriter::after(Target::Plain(Output::of_file(unbuffered(file), None)), head, Some(length))
+        WavWriter::after(Target::Plain(Output::new(unbuffered(file), None, Some(true))), head, Some(length))
     }
 
     /// Creates a file that [survives a loss of power](crate#recordings-that-survive-a-loss-of-power) (own): when this
@@ -220,7 +220,7 @@ fn unbuffered(file: fs::File) -> io::BufWriter<fs::File> {
 
 fn durable(file: fs::File) -> io::Result<Target<Output<io::BufWriter<fs::File>>>> {
     let disk = (file.try_clone()?, fs::File::sync_data as SyncBy);
-    Ok(Target::Synced(Durable::new(Output::of_file(unbuffered(file), Some(disk)))))
+    Ok(Target::Synced(Durable::new(Output::new(unbuffered(file), Some(disk), Some(true)))))
 }
 
 // Syncs the folder that has the name of a file, where folders can be opened.
