@@ -1360,15 +1360,30 @@ class Followed {
 
   /** Looks at the header, unless more is counted already than was given, and returns whether more is. */
   look() {
-    for (let code = 1; this.#left === 0 && code === 1;) {
+    for (let code; this.#left === 0 && code !== NOTHING_NEW;) {
       code = this.#machine.call("follower_next", shared.at(MACHINE));
-      if (code < 0) throw errorOf(code, callOver(readNow(this.#handle, { place: 0, length: FRONT }), "kind"));
-      const { effect } = this.#machine;
-      if (code === 1 && effect.kind !== READ) throw unknownEffect();
-      if (code === 1) this.#machine.report(effect, readNow(this.#handle, effect));
-      if (code === NOTHING_NEW) this.#check();
+      if (code < 0) return this.#reject(errorOf(code, this.#kind()));
+      if (code === 1) this.#perform(this.#machine.effect);
     }
+    if (this.#left === 0) this.#check();
     return this.#left > 0;
+  }
+
+  #perform(effect) {
+    if (effect.kind !== READ) throw unknownEffect();
+    this.#machine.report(effect, readNow(this.#handle, effect));
+  }
+
+  /** What the file is, by its front, for the sentence of an error. */
+  #kind() {
+    return callOver(readNow(this.#handle, { place: 0, length: FRONT }), "kind");
+  }
+
+  /** Throws the error of a look; a file of which nothing was given may become another recording, and has nothing now. */
+  #reject(error) {
+    if (error.code !== "TRUNCATED" || this.#given > 0) throw error;
+    this.#machine = new Machine("follower");
+    return false;
   }
 
   /** An error where the file no longer is that recording: it is shorter, or was emptied and recorded anew. */
