@@ -1379,7 +1379,7 @@ class Followed {
     return callOver(readNow(this.#handle, { place: 0, length: FRONT }), "kind");
   }
 
-  /** Throws the error of a look; a file of which nothing was given may become another recording, and has nothing now. */
+  /** Throws the error of a look. A file of which nothing was given may become another recording: it has nothing now. */
   #reject(error) {
     if (error.code !== "TRUNCATED" || this.#given > 0) throw error;
     this.#machine = new Machine("follower");
