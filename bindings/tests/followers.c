@@ -119,7 +119,10 @@ static uint32_t counted_by(int number, const hound_follow *follow) {
         if (hound_file_find(follow->file.descriptor, &size, &is_regular) < 0 || size < place + 4) return 0;
         return (uint32_t)hound_whole_frames(&follower->spec, size - place - 4);
     }
-    for (i = 0; i < 4; i++) hound_file_read_at(follow->file.descriptor, bytes + i, 1, place + i);
+    for (i = 0; i < 4; i++) {
+        hound_file_read_at(follow->file.descriptor, bytes + i, 1, place + i);
+        for (volatile int pause = 0; pause < 2000; pause++) continue; /* so that more is torn */
+    }
     return (uint32_t)hound_whole_frames(&follower->spec, bytes[0] | (uint32_t)bytes[1] << 8 | (uint32_t)bytes[2] << 16
                                                              | (uint32_t)bytes[3] << 24);
 }

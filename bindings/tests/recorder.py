@@ -42,6 +42,7 @@ WRONG = {
     ),
     "a file without a header stays": ("give_up(file, path, !is_emptied, code)", "give_up(file, path, 0, code)"),
     "no lock": ("flock(descriptor, (is_shared ? LOCK_SH : LOCK_EX) | LOCK_NB)", "0"),
+    "a lock is tried once": ("--attempts_left == 0", "1"),
     "a length of data lies across two sectors": (
         "filler = hound_filler((uint64_t)front + length, out + front - 8 + length, HOUND_FILLER_BYTES);",
         "filler = 0;",
@@ -173,6 +174,16 @@ def two_programs(record, path):
     expect("a live recording is repaired", repaired.returncode == 1 and b": another program" in repaired.stderr)
     expect("the first recorder lost samples", counted_in(path) == len(DATA) // 2)
     expect("a lock outlives its program", run([record, path, *SHAPE, "--append"]).returncode == 0)
+
+
+def locked_for_a_moment(record, path):
+    """A follower has locked the file at nine attempts, or at ten: then it is an error."""
+    for attempts, status in (9, 0), (10, 1):
+        words = ["strace", "-qq", "-o", path + ".log", "-e", "trace=flock"]
+        words += ["-e", f"inject=flock:error=EAGAIN:when=1..{attempts}"]
+        ran = run([*words, record, path, *SHAPE, "--overwrite"], DATA)
+        expect(f"a file that is locked at {attempts} attempts ends it with {ran.returncode}", ran.returncode == status)
+        expect("it doesn't record", counted_in(path) == len(DATA) // 2)
 
 
 def closed_streams(record, path):
@@ -559,6 +570,7 @@ CHECKS = [
     exists,
     folder_without_leave,
     two_programs,
+    locked_for_a_moment,
     closed_output,
     slow_input,
     cut_off,
