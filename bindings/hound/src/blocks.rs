@@ -36,7 +36,7 @@ pub trait WriteSamples: sealed::Sealed {
 impl<R: Read> ReadSamples for WavReader<R> {
     fn read_samples<S: Sample>(&mut self, samples: &mut [S]) -> (usize, Result<()>) {
         self.begin(0);
-        S::__hound_read_all(&mut self.proved, samples)
+        S::__hound_read_all(self, samples)
     }
 
     fn read_scaled<F: Scaled>(&mut self, samples: &mut [F]) -> (usize, Result<()>) {

@@ -44,26 +44,7 @@ impl<R: Read + Seek> Source for Input<R> {
 /// the reader which it is, since other code doesn't know that `R` is its type.
 pub enum Origin<R> {
     Reader(R),
-    Opened(Box<Opened>, fn(BufReader<File>) -> R),
-}
-
-/// A file that this crate has opened, and samples that were read ahead of their turn: only such as its buffer held, so
-/// that it can go back without a call of the system.
-pub struct Opened {
-    pub(crate) file: BufReader<File>,
-    pub(crate) ahead: Vec<u32>, // Those that weren't given yet, the last one first, each as its bits.
-    pub(crate) sample_type: u8, // Their type, by the number that it has as a `Sample`.
-    pub(crate) wanted: usize,   // How many are to be read at the next time: few at first, since a `seek` may come.
-}
-
-impl<R> Origin<R> {
-    #[inline(always)]
-    pub(crate) fn opened(&mut self) -> Option<&mut Opened> {
-        match self {
-            Origin::Reader(_) => None,
-            Origin::Opened(opened, _) => Some(opened),
-        }
-    }
+    Opened(BufReader<File>, fn(BufReader<File>) -> R),
 }
 
 impl<R: Read> Read for Origin<R> {
@@ -71,7 +52,7 @@ impl<R: Read> Read for Origin<R> {
     fn read(&mut self, bytes: &mut [u8]) -> io::Result<usize> {
         match self {
             Origin::Reader(reader) => reader.read(bytes),
-            Origin::Opened(opened, _) => opened.file.read(bytes),
+            Origin::Opened(file, _) => file.read(bytes),
         }
     }
 }
@@ -80,7 +61,7 @@ impl<R: Seek> Seek for Origin<R> {
     fn seek(&mut self, to: SeekFrom) -> io::Result<u64> {
         match self {
             Origin::Reader(reader) => reader.seek(to),
-            Origin::Opened(opened, _) => opened.file.seek(to),
+            Origin::Opened(file, _) => file.seek(to),
         }
     }
 }

@@ -1,6 +1,6 @@
-use crate::medium::{Input, Opened, Origin};
+use crate::medium::{Input, Origin};
 use crate::proved::walk::{self, error_of, read_until_samples};
-use crate::sample::{Reader, MOST_AHEAD};
+use crate::sample::Reader;
 use crate::{Result, Sample, WavSpec, WavSpecEx};
 use std::io::{self, Read};
 use std::{fs, marker, panic, path};
@@ -13,6 +13,11 @@ pub fn read_wave_header<R: Read>(reader: &mut R) -> Result<u64> {
 /// Reads the samples of a file. It takes no byte after the samples that were asked for.
 pub struct WavReader<R> {
     pub(crate) proved: Reader<R>,
+    // Samples of a file that this crate has opened which were read ahead of their turn, the last one first, each as its
+    // bits: only such as its buffer held, so that it can go back without a call of the system.
+    pub(crate) ahead: Vec<u32>,
+    pub(crate) wanted: usize, // How many are to be read ahead at the next time: few at first, since a `seek` may come.
+    sample_type: u8,          // Their type, by the number that it has as a `Sample`.
 }
 
 // Where the user's reader panics, the sample that was to be read isn't counted, and nothing else is wrong.
@@ -28,7 +33,8 @@ impl<R: Read> WavReader<R> {
 
     fn over(mut reader: R, origin: impl FnOnce(R) -> Origin<R>) -> Result<WavReader<R>> {
         let (head, num_samples) = read_until_samples(&mut Input(&mut reader)).map_err(error_of)?;
-        Ok(WavReader { proved: Reader::over(Input(origin(reader)), head.spec_ex, num_samples) })
+        let proved = Reader::over(Input(origin(reader)), head.spec_ex, num_samples);
+        Ok(WavReader { proved, ahead: Vec::new(), wanted: 0, sample_type: 0 })
     }
 
     /// What the file says of its samples.
@@ -68,7 +74,7 @@ impl<R: Read> WavReader<R> {
         self.begin(0);
         match self.proved.into_inner().0 {
             Origin::Reader(reader) => reader,
-            Origin::Opened(opened, reader_of) => reader_of(opened.file),
+            Origin::Opened(file, reader_of) => reader_of(file),
         }
     }
 
@@ -84,14 +90,16 @@ impl<R: Read> WavReader<R> {
     /// Begins with samples of a type, by its number. Others that were read ahead weren't read then.
     #[inline(always)]
     pub(crate) fn begin(&mut self, sample_type: u8) {
-        let width = u64::from(self.proved.spec_ex.bytes_per_sample);
-        if let Some(opened) = self.proved.reader.reader.0.opened().filter(|opened| opened.sample_type != sample_type) {
-            let count = opened.ahead.len() as u64;
-            opened.file.seek_relative(-((count * width) as i64)).expect("the buffer holds them");
-            opened.ahead.clear();
-            (opened.sample_type, opened.wanted) = (sample_type, 0);
+        if self.sample_type != sample_type {
+            let count = self.ahead.len() as u64;
+            let bytes = count * u64::from(self.proved.spec_ex.bytes_per_sample);
+            if let Origin::Opened(file, _) = &mut self.proved.reader.reader.0 {
+                file.seek_relative(-(bytes as i64)).expect("the buffer holds them");
+            }
             self.proved.samples_read -= count;
-            self.proved.bytes_read -= count * width;
+            self.proved.bytes_read -= bytes;
+            self.ahead.clear();
+            (self.wanted, self.sample_type) = (0, sample_type);
         }
     }
 }
@@ -100,10 +108,7 @@ impl WavReader<io::BufReader<fs::File>> {
     /// Opens a file, and reads its header.
     pub fn open<P: AsRef<path::Path>>(filename: P) -> Result<WavReader<io::BufReader<fs::File>>> {
         let file = io::BufReader::new(fs::File::open(filename)?);
-        WavReader::over(file, |file| {
-            let ahead = Vec::with_capacity(MOST_AHEAD);
-            Origin::Opened(Box::new(Opened { file, ahead, sample_type: 0, wanted: 0 }), |file| file)
-        })
+        WavReader::over(file, |file| Origin::Opened(file, |file| file))
     }
 }
 
@@ -128,15 +133,11 @@ macro_rules! samples {
 
             #[inline(always)]
             fn next(&mut self) -> Option<Result<S>> {
-                S::__hound_read(&mut self.reader.proved, self.spec_ex)
+                S::__hound_read(&mut self.reader, self.spec_ex)
             }
 
             fn size_hint(&self) -> (usize, Option<usize>) {
-                let ahead = match &self.reader.proved.reader.reader.0 {
-                    Origin::Opened(opened, _) => opened.ahead.len(),
-                    Origin::Reader(_) => 0,
-                };
-                let left = self.reader.proved.samples_left() as usize + ahead;
+                let left = self.reader.proved.samples_left() as usize + self.reader.ahead.len();
                 (left, Some(left))
             }
         }

@@ -42,10 +42,7 @@ fn repair_by(task: Task, filename: &path::Path) -> Result<Repair> {
     };
     // A file that stays as it is needs no more than to be read. Of another one the first write fails.
     let file = open_locked(fs::OpenOptions::new().read(true), filename)?;
-    repair_in(task, &file).map_err(|error| match error {
-        Error::IoError(_) => Error::IoError(denied),
-        error => error,
-    })
+    repair_in(task, &file).map_err(|error| if let Error::IoError(_) = error { denied.into() } else { error })
 }
 
 fn repair_in(task: Task, mut file: &fs::File) -> Result<Repair> {

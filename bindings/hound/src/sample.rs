@@ -1,17 +1,17 @@
 use crate::medium::{Input, Origin, Output};
 use crate::proved::durable::Target;
-use crate::proved::reader::{WavReader, WavSamples};
+use crate::proved::reader::{self, WavSamples};
 use crate::proved::sample::{error_of_sample, Sample as Proved, SampleError};
 use crate::proved::writer::WavWriter;
-use crate::{Error, Result, SampleFormat, WavSpecEx};
+use crate::{Error, Result, SampleFormat, WavReader, WavSpecEx};
 use std::io::{self, Read, Seek, Write};
 use std::marker::PhantomData;
 
 /// At most so many samples are read ahead.
-pub(crate) const MOST_AHEAD: usize = 127;
+const MOST_AHEAD: usize = 127;
 
 /// The proved reader and writer, over those of the user's.
-pub type Reader<R> = WavReader<Input<Origin<R>>>;
+pub type Reader<R> = reader::WavReader<Input<Origin<R>>>;
 pub type Writer<W> = WavWriter<Target<Output<W>>>;
 
 /// A type of samples: `i8`, `i16`, `i32`, `f32`, or one of your own.
@@ -51,20 +51,21 @@ pub trait Sample: Sized {
 
     #[doc(hidden)]
     #[inline]
-    fn __hound_read<R: Read>(reader: &mut Reader<R>, spec_ex: WavSpecEx) -> Option<Result<Self>> {
+    fn __hound_read<R: Read>(reader: &mut WavReader<R>, spec_ex: WavSpecEx) -> Option<Result<Self>> {
+        let (WavSpecEx { spec, bytes_per_sample }, reader) = (spec_ex, &mut reader.proved);
         if reader.samples_left() == 0 {
             return None;
         }
         reader.samples_read += 1;
-        let (WavSpecEx { spec, bytes_per_sample }, mut rest) = (spec_ex, reader.reader.reader.by_ref().take(u64::MAX));
+        let mut rest = reader.reader.reader.by_ref().take(u64::MAX);
         let sample = Self::read(&mut rest, spec.sample_format, bytes_per_sample, spec.bits_per_sample);
         reader.bytes_read += u64::MAX - rest.limit();
         Some(sample)
     }
 
     #[doc(hidden)]
-    fn __hound_read_all<R: Read>(reader: &mut Reader<R>, samples: &mut [Self]) -> (usize, Result<()>) {
-        let spec_ex = reader.spec_ex();
+    fn __hound_read_all<R: Read>(reader: &mut WavReader<R>, samples: &mut [Self]) -> (usize, Result<()>) {
+        let spec_ex = reader.proved.spec_ex();
         for (count, slot) in samples.iter_mut().enumerate() {
             match Self::__hound_read(reader, spec_ex) {
                 Some(Ok(sample)) => *slot = sample,
@@ -96,18 +97,18 @@ fn rejected<W: Write + Seek>(writer: &mut Writer<W>, reason: SampleError) -> Err
 // Reads a sample, and then those after it which the buffer of the file holds: these aren't rejected, and have no fault.
 #[inline(never)]
 fn read_ahead<R: Read, S: Proved + Copy + Default>(
-    reader: &mut Reader<R>,
+    reader: &mut WavReader<R>,
     bits_of: impl Fn(S) -> u32,
 ) -> Option<Result<S>> {
-    let sample = reader.samples().next()?;
-    let (width, left) = (usize::from(reader.spec_ex.bytes_per_sample), reader.samples_left() as usize);
-    if let (Ok(_), Some(opened)) = (&sample, reader.reader.reader.0.opened()) {
-        let (mut samples, held) = ([S::default(); MOST_AHEAD], opened.file.buffer().len() / width);
-        let wanted = opened.wanted.min(held).min(left);
-        opened.wanted = (2 * opened.wanted + 1).min(MOST_AHEAD);
-        let (count, _) = reader.read_samples(&mut samples[..wanted]);
-        let ahead = samples[..count].iter().rev().map(|sample| bits_of(*sample));
-        reader.reader.reader.0.opened()?.ahead.extend(ahead);
+    let sample = reader.proved.samples().next()?;
+    if let (Ok(_), Origin::Opened(file, _)) = (&sample, &reader.proved.reader.reader.0) {
+        let held = file.buffer().len() / usize::from(reader.proved.spec_ex.bytes_per_sample);
+        let wanted = reader.wanted.min(held).min(reader.proved.samples_left() as usize);
+        reader.wanted = (2 * reader.wanted + 1).min(MOST_AHEAD);
+        let mut samples = [S::default(); MOST_AHEAD];
+        let (count, _) = reader.proved.read_samples(&mut samples[..wanted]);
+        reader.ahead.reserve(MOST_AHEAD);
+        reader.ahead.extend(samples[..count].iter().rev().map(|sample| bits_of(*sample)));
     }
     Some(sample)
 }
@@ -146,16 +147,16 @@ macro_rules! sample {
             }
 
             #[inline(always)]
-            fn __hound_read<R: Read>(reader: &mut Reader<R>, spec_ex: WavSpecEx) -> Option<Result<$type>> {
-                match reader.reader.reader.0.opened().map(|opened| opened.ahead.pop()) {
-                    Some(Some(bits)) => Some(Ok($of_bits(bits))),
-                    Some(None) => read_ahead(reader, $bits_of),
-                    None => WavSamples { reader, spec_ex, phantom_sample: PhantomData }.next(),
+            fn __hound_read<R: Read>(reader: &mut WavReader<R>, spec_ex: WavSpecEx) -> Option<Result<$type>> {
+                match (reader.ahead.pop(), &reader.proved.reader.reader.0) {
+                    (Some(bits), _) => Some(Ok($of_bits(bits))),
+                    (None, Origin::Opened(..)) => read_ahead(reader, $bits_of),
+                    _ => WavSamples { reader: &mut reader.proved, spec_ex, phantom_sample: PhantomData }.next(),
                 }
             }
 
-            fn __hound_read_all<R: Read>(reader: &mut Reader<R>, samples: &mut [$type]) -> (usize, Result<()>) {
-                reader.read_samples(samples)
+            fn __hound_read_all<R: Read>(reader: &mut WavReader<R>, samples: &mut [$type]) -> (usize, Result<()>) {
+                reader.proved.read_samples(samples)
             }
         }
     };
