@@ -1350,55 +1350,68 @@ class Followed {
     return this.#machine.view.getUint32(LAYOUT.follower.counted, true) - this.#given;
   }
 
+  /** What is before the samples, as the machine has it: their spec, and where they begin. */
+  #head({ bytes } = this.#machine) {
+    const { dataStart, spec } = LAYOUT.follower;
+    return bytes.subarray(dataStart, spec + LAYOUT.spec.size);
+  }
+
   /** The spec of the samples, once all of the header was there. */
   get spec() {
     if (this.#dataStart === 0) return undefined;
-    const { spec } = LAYOUT.follower;
-    shared.bytes.set(this.#machine.bytes.subarray(spec, spec + LAYOUT.spec.size), FOUND);
+    shared.bytes.set(this.#head().subarray(-LAYOUT.spec.size), FOUND);
     return shared.specAt(FOUND);
   }
 
-  /** Looks at the header, unless more is counted already than was given, and returns whether more is. */
+  /** Looks at the header, unless more is counted already than was given, and returns whether more is. The look that
+      finds the header counts nothing yet. */
   look() {
-    for (let code; this.#left === 0 && code !== NOTHING_NEW;) {
-      code = this.#machine.call("follower_next", shared.at(MACHINE));
-      if (code < 0) return this.#reject(errorOf(code, this.#kind()));
-      if (code === 1) this.#perform(this.#machine.effect);
-    }
-    if (this.#left === 0) this.#check();
+    let hasMore = true;
+    while (this.#left === 0 && hasMore) hasMore = this.#lookBy(this.#machine);
+    if (this.#left === 0 && this.#given > 0 && !this.#isSame()) this.#replaced();
     return this.#left > 0;
   }
 
-  #perform(effect) {
-    if (effect.kind !== READ) throw unknownEffect();
-    this.#machine.report(effect, readNow(this.#handle, effect));
+  /** Whether a look finds something new. */
+  #lookBy(machine) {
+    for (;;) {
+      const code = machine.call("follower_next", shared.at(MACHINE)), { effect } = machine;
+      if (code === 0 || code === NOTHING_NEW) return code === 0;
+      if (code < 0) return this.#reject(code);
+      if (effect.kind !== READ) throw unknownEffect();
+      machine.report(effect, readNow(this.#handle, effect));
+    }
   }
 
-  /** What the file is, by its front, for the sentence of an error. */
-  #kind() {
-    return callOver(readNow(this.#handle, { place: 0, length: FRONT }), "kind");
+  #reject(code) {
+    const error = errorOf(code, callOver(readNow(this.#handle, { place: 0, length: FRONT }), "kind"));
+    if (error.code !== "TRUNCATED") throw error;
+    return this.#replaced();
   }
 
-  /** Throws the error of a look. A file of which nothing was given may become another recording: it has nothing now. */
-  #reject(error) {
-    if (error.code !== "TRUNCATED" || this.#given > 0) throw error;
+  /** Whether the last bytes that were given are where they were. Where none were the header is the same. */
+  #isSame() {
+    const again = new Machine("follower"), { length } = this.#tail;
+    const place = this.#dataStart + this.#given - length;
+    if (this.#given === 0) this.#lookBy(again);
+    const [was, now] = this.#given === 0
+      ? [this.#head(), this.#head(again)] : [this.#tail, readNow(this.#handle, { place, length })];
+    return was.length === now.length && was.every((byte, i) => byte === now[i]);
+  }
+
+  /** Another recording was found in the file: an error, unless nothing was given of the one before. */
+  #replaced() {
+    if (this.#given > 0) throw new HoundError("TRUNCATED");
     this.#machine = new Machine("follower");
     return false;
   }
 
-  /** An error where the file no longer is that recording: it is shorter, or was emptied and recorded anew. */
-  #check() {
-    const { length } = this.#tail, place = this.#dataStart + this.#given - length;
-    const now = readNow(this.#handle, { place, length });
-    if (now.length < length || this.#tail.some((byte, i) => byte !== now[i])) throw new HoundError("TRUNCATED");
-  }
-
-  /** The containers of the next frames that are counted, at most so many. */
+  /** The containers of the next frames that are counted, at most so many; none where it is another recording now. */
   async take(frames) {
     const { channels, bytesPerSample } = this.spec, length = Math.min(frames * channels * bytesPerSample, this.#left);
     const bytes = await readAt(this.#handle, { place: this.#dataStart + this.#given, length });
-    if (bytes.length < length) throw new HoundError("TRUNCATED");
-    this.#check();
+    if (bytes.length < length || !this.#isSame()) this.#replaced();
+    if (this.#left === 0) return new Uint8Array(0);
     this.#given += length;
     this.#tail = bytes.slice(-TAIL);
     return bytes;
@@ -1449,7 +1462,8 @@ async function* framesOf(followed, frames, { type, planar = false }, goesOn) {
     if (followed.look()) {
       const { spec } = followed;
       const form = typeNamed(type ?? (spec.isFloat ? "float32" : spec.bitsPerSample <= 16 ? "int16" : "int32"));
-      yield blockOf(await followed.take(Math.min(frames, Math.floor(BLOCK / spec.channels))), spec, form, planar);
+      const bytes = await followed.take(Math.min(frames, Math.floor(BLOCK / spec.channels)));
+      if (bytes.length > 0) yield blockOf(bytes, spec, form, planar);
       [since, isLast] = [performance.now(), false];
     } else if (isLast) {
       return; // After the recorder has ended its last checkpoint was looked at, too.

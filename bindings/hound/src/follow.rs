@@ -46,7 +46,9 @@ impl<R: Read + Seek> Follower<R> {
         }
         let mut bytes = vec![0; (most * width).min(left as usize)];
         self.read_all(start + self.given, &mut bytes)?;
-        self.check(start)?;
+        if !self.is_same()? {
+            return self.replaced();
+        }
         let mut rest = &bytes[..];
         for sample in &mut samples[..bytes.len() / width] {
             *sample = S::read(&mut rest, spec.sample_format, spec_ex.bytes_per_sample, spec.bits_per_sample)?;
@@ -57,30 +59,48 @@ impl<R: Read + Seek> Follower<R> {
         Ok(bytes.len() / width)
     }
 
-    // How many bytes are counted that weren't given.
+    // How many bytes are counted that weren't given. The look that finds the header counts none.
     fn look(&mut self) -> Result<u64> {
-        let (mut part, mut count, mut report) = ([0; 40], 0, Report::Pending);
-        while u64::from(self.machine.counted()) == self.given {
-            match self.machine.next(&part[..count], report)? {
-                FollowStep::Reads(place, length) => {
-                    count = self.read_at(place, &mut part[..length as usize])?;
-                    report = Report::Done;
-                }
-                FollowStep::Grew => report = Report::Pending,
-                FollowStep::NothingNew => break,
-            }
-        }
-        Ok(u64::from(self.machine.counted()) - self.given)
+        let mut machine = self.machine;
+        while u64::from(machine.counted()) == self.given && self.look_by(&mut machine)? {}
+        self.machine = machine;
+        Ok(u64::from(machine.counted()) - self.given)
     }
 
-    // An error where the last bytes that were given are no longer where they were.
-    fn check(&mut self, start: u64) -> Result<()> {
-        let mut now = vec![0; self.tail.len()];
-        self.read_all(start + self.given - self.tail.len() as u64, &mut now)?;
-        if now == self.tail {
-            return Ok(());
+    // Whether a look finds something new.
+    fn look_by(&mut self, machine: &mut Machine) -> Result<bool> {
+        let (mut part, mut count, mut report) = ([0; 40], 0, Report::Pending);
+        loop {
+            match machine.next(&part[..count], report)? {
+                FollowStep::Reads(place, length) => count = self.read_at(place, &mut part[..length as usize])?,
+                FollowStep::Grew => return Ok(true),
+                FollowStep::NothingNew => return Ok(false),
+            }
+            report = Report::Done;
         }
-        Err(CallError::Truncated.into())
+    }
+
+    // Whether the last bytes that were given are where they were. Where none were the header is the same.
+    fn is_same(&mut self) -> Result<bool> {
+        let start = self.machine.recording().map_or(0, |recording| recording.data_start);
+        if self.given == 0 {
+            let mut again = Machine::new();
+            self.look_by(&mut again)?;
+            let head = |machine: &Machine| machine.recording().map(|found| (found.spec_ex, found.data_start));
+            return Ok(head(&again) == head(&self.machine));
+        }
+        let mut now = vec![0; self.tail.len()];
+        let count = self.read_at(start + self.given - self.tail.len() as u64, &mut now)?;
+        Ok(count == now.len() && now == self.tail)
+    }
+
+    // Another recording was found in the file: an error, unless nothing was given of the one before.
+    fn replaced(&mut self) -> Result<usize> {
+        if self.given > 0 {
+            return Err(CallError::Truncated.into());
+        }
+        self.machine = Machine::new();
+        Ok(0)
     }
 
     fn read_all(&mut self, place: u64, bytes: &mut [u8]) -> Result<()> {
