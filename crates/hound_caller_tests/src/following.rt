@@ -1,4 +1,6 @@
 // Following a recording over a journal: as it is after each byte written, and while a length is written over another.
+ghost use Rattle.hound.specs.{IsSoundFollower};
+
 use hound::{FollowStep, Follower, Journal, Recording, Report, WavSpecEx, WavWriter};
 use hound_callers::follow_meanwhile;
 use hound_test_helpers::integers;
@@ -31,7 +33,9 @@ fn recorded(alloc: Global) -> Result<Journal, Fail> {
 // The number of the four bytes of the length.
 fn length_of(bytes: &[u8]) -> u32 {
     let mut four = [0; 4];
-    four.copy_from_slice(&bytes[HEADER - 4..HEADER]);
+    if HEADER <= bytes.len() {
+        four.copy_from_slice(&bytes[HEADER - 4..HEADER]);
+    }
     u32::from_le_bytes(four)
 }
 
@@ -43,7 +47,10 @@ fn part(bytes: &[u8], place: u64, count: u32) -> &[u8] {
 }
 
 // How a look at a file in memory ends.
-fn look(follower: &mut Follower, bytes: &[u8]) -> &'static str {
+fn look(follower: &mut Follower, bytes: &[u8]) -> &'static str
+    requires { IsSoundFollower follower.old }
+    ensures { IsSoundFollower follower.new }
+{
     let mut read: &[u8] = &[];
     let mut report = Report::Pending;
     for _ in 0..100 {
@@ -96,7 +103,8 @@ fn a_follower_counts_what_the_header_counts_after_each_byte(rt: HostRuntime) -> 
 fn first_byte_first(alloc: Global, journal: &Journal, states: [usize; 4]) -> Result<u32, Fail> {
     let mut four = [0; 4];
     for i in 0..4usize {
-        four[i] = journal.bytes_after(alloc, states[i])?[HEADER - 4 + i];
+        let bytes = journal.bytes_after(alloc, states[i].min(journal.taken()))?;
+        four[i] = bytes.get(HEADER - 4 + i).copied().unwrap_or(0);
     }
     Ok(u32::from_le_bytes(four))
 }
@@ -125,7 +133,7 @@ fn a_follower_reads_no_sample_that_was_not_accepted(rt: HostRuntime) -> Result<(
     let mut greatest = 0;
     let mut control = 0;
     // The last bytes written are the pad byte and the two sizes, once by the flush and once by the drop.
-    for a in last - 20..last + 1 {
+    for a in last.saturating_sub(20)..last + 1 {
         for b in a..(a + 6).min(last + 1) {
             for c in b..(b + 3).min(last + 1) {
                 let d = (c + 2).min(last);

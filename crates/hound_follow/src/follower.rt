@@ -73,6 +73,7 @@ pub(crate) struct Outcome {
 }
 
 // A look that ends so, after which the next one begins.
+#[inline(always)]
 fn ended(follower: Follower, returned: Result<FollowStep, FollowError>) -> Outcome
     ensures { result ≡ look_ended follower returned }
 {
@@ -84,6 +85,7 @@ fn ended(follower: Follower, returned: Result<FollowStep, FollowError>) -> Outco
 }
 
 // A look that continues with a request.
+#[inline(always)]
 fn requests(follower: Follower) -> Outcome
     requires { IsSoundFollower follower }
     ensures is { result ≡ look_requests follower }
@@ -97,6 +99,7 @@ fn requests(follower: Follower) -> Outcome
 }
 
 // What comes of a part of the header.
+#[inline(always)]
 fn after_part(walk: HeadWalk, bytes: &[u8]) -> Outcome
     requires sound { IsSoundOption walk.found }
     ensures takes { TakesHeaderPart walk bytes.now result }
@@ -124,6 +127,7 @@ fn after_part(walk: HeadWalk, bytes: &[u8]) -> Outcome
 
 impl Recording {
     // How many of so many bytes are whole frames.
+    #[inline(always)]
     fn whole_frames(self, length: u32) -> u32
         requires { IsSoundSpec self.spec_ex }
         ensures { result ≡ whole_bytes self.spec_ex length }
@@ -133,6 +137,7 @@ impl Recording {
     }
 
     // What comes of a data length.
+    #[inline(always)]
     fn after_count(self, length: u32) -> Outcome
         requires { IsSoundRecording self }
         ensures is { result ≡ after_count self length }
@@ -157,6 +162,7 @@ impl Recording {
     }
 
     // What comes of all four bytes of the data length.
+    #[inline(always)]
     fn after_length(self, bytes: &[u8]) -> Outcome
         requires { IsSoundRecording self }
         ensures is { result ≡ after_length self bytes.now }
@@ -173,6 +179,7 @@ impl Recording {
     }
 
     // What comes of one of them.
+    #[inline(always)]
     fn after_byte(self, number: u32, above: u32, bytes: &[u8]) -> Outcome
         requires sound { IsSoundRecording self }
         requires above { IsSoundLength (Byte number above) }
@@ -191,6 +198,7 @@ impl Recording {
     }
 
     // What comes of what was requested of the data length.
+    #[inline(always)]
     fn after_look(self, look: Look, bytes: &[u8]) -> Outcome
         requires sound { IsSoundRecording self }
         requires look { IsSoundLength look }
@@ -206,6 +214,7 @@ impl Recording {
 
 impl Follower {
     /// A follower of a file of which nothing was read yet.
+    #[inline(always)]
     pub fn new() -> Follower
         ensures is { result ≡ Walks first_walk }
         ensures sound { IsSoundFollower result }
@@ -218,6 +227,7 @@ impl Follower {
     }
 
     /// The recording, once all of its header was there.
+    #[inline(always)]
     pub fn recording(self) -> Option<Recording>
         ensures { result ≡ recording_of self }
     {
@@ -228,6 +238,7 @@ impl Follower {
     }
 
     /// How many bytes of whole frames the header has counted, at most so far; 0 before all of it was there.
+    #[inline(always)]
     pub fn counted(self) -> u32
         ensures { result ≡ counted_by self }
     {
@@ -238,6 +249,7 @@ impl Follower {
     }
 
     /// Where it reads next, and how many bytes.
+    #[inline(always)]
     pub fn request(self) -> (u64, u32)
         requires { IsSoundFollower self }
         ensures { result ≡ requested_by self }
@@ -258,6 +270,7 @@ impl Follower {
     ///
     /// A look ends with another result than a request. The next call, without a report, begins the next look. Between
     /// the two the caller may read what [`Recording::counted`] counts.
+    #[inline(always)]
     pub fn next(&mut self, bytes: &[u8], report: Report) -> Result<FollowStep, FollowError>
         requires sound { IsSoundFollower self.old }
         ensures steps { FollowsNext report bytes.now self.old self.new result }

@@ -28,6 +28,7 @@ pub struct HoundFollower {
 }
 
 // The recording that was found, if C's is one of a file.
+#[inline(always)]
 fn recording_of(c: HoundFollower) -> Option<Recording>
     ensures is { result ≡ recording_of c }
     ensures sound { IfSome result IsSoundRecording }
@@ -45,6 +46,7 @@ fn recording_of(c: HoundFollower) -> Option<Recording>
 }
 
 // What is requested of the data length, by its number.
+#[inline(always)]
 fn look_of(part: u32, above: u32) -> Look
     ensures is { result ≡ look_of part above }
     ensures sound { IsSoundLength result }
@@ -59,6 +61,7 @@ fn look_of(part: u32, above: u32) -> Look
 }
 
 // The follower that C's is.
+#[inline(always)]
 fn follower_of(c: HoundFollower) -> Follower
     ensures is { result ≡ follower_of c }
     ensures sound { IsSoundFollower result }
@@ -73,6 +76,7 @@ fn follower_of(c: HoundFollower) -> Follower
 }
 
 // The numbers of what is requested of the data length.
+#[inline(always)]
 fn numbers_of_look(look: Look) -> (u32, u32)
     requires { IsSoundLength look }
     ensures is { look_of result.0 result.1 ≡ look }
@@ -85,6 +89,7 @@ fn numbers_of_look(look: Look) -> (u32, u32)
 }
 
 // C's form of a follower that requests this.
+#[inline(always)]
 fn follower_for_c(follower: Follower, action: Option<Action>) -> HoundFollower
     requires { IsSoundFollower follower }
     ensures is { follower_of result ≡ follower }
@@ -130,6 +135,7 @@ fn follower_for_c(follower: Follower, action: Option<Action>) -> HoundFollower
 }
 
 // What is requested next, if something is.
+#[inline(always)]
 fn action_of(step: Result<FollowStep, FollowError>) -> Option<Action>
     ensures { result ≡ action_of step }
 {
@@ -140,6 +146,7 @@ fn action_of(step: Result<FollowStep, FollowError>) -> Option<Action>
 }
 
 // What a call returns for this.
+#[inline(always)]
 fn outcome_of(step: Result<FollowStep, FollowError>) -> Result<usize, CallError>
     ensures is { result ≡ outcome_of step }
     ensures few { IfOk result (λ n. n ≤ 2) }
@@ -156,6 +163,7 @@ fn outcome_of(step: Result<FollowStep, FollowError>) -> Result<usize, CallError>
 }
 
 // The bytes that were read of those that C's follower asked for.
+#[inline(always)]
 fn asked_bytes(c: &HoundFollower) -> &[u8]
     ensures { result.now ≡ asked_bytes c.now }
 {
@@ -169,6 +177,7 @@ fn asked_bytes(c: &HoundFollower) -> &[u8]
 }
 
 /// Takes how a read was reported: 1 if another one is requested, 0 if the look found more, 2 if it found nothing new.
+#[inline(always)]
 pub fn step_follower(follower: &mut HoundFollower) -> Result<usize, CallError>
     ensures steps { StepsFollower follower.old follower.new result }
     ensures few { IfOk result (λ n. n ≤ 2) }
