@@ -1,10 +1,7 @@
-use Rattle.std.proofs.Common.{Ok, ap, drop, rules, subst, sym, ◌*◌, ◌++◌, ◌∙◌}
+use Rattle.std.proofs.Common.{ap, rules, sym, ◌*◌, ◌∙◌}
 use Rattle.std.proofs.lemmas.List.{length-map}
 use Rattle.hound_sample.proofs.Amplitudes.{with_noise-length}
-use Rattle.hound_sample.specs.{int_container, scaled, scaled_to, with_noise}
-use Rattle.hound_spec.specs.declared.spec.SampleFormat.TheVariants.{Int}
-use Rattle.hound_slices.specs.Writing.{Encodes}
-use Rattle.hound_slices.specs.Scaling.{integers}
+use Rattle.hound_sample.specs.{scaled, scaled_to, with_noise}
 use Rattle.hound_slices.proofs.Scaled.{clipped_fits, encoded}
 use Rattle.hound_slices.proofs.scaling.encode_with_noise.Goals as goal
 

@@ -1,9 +1,8 @@
 use Rattle.std.proofs.lemmas.Result.{err_from_is_err_and}
-use Rattle.std.proofs.Common.{◌≡◌, ◌*◌, ◌++◌, Ok, length, drop, refl, ◌∙◌, ap, subst, arith, rules}
+use Rattle.std.proofs.Common.{◌≡◌, ◌*◌, length, drop, refl, ◌∙◌, ap, arith, rules}
 use Rattle.std.proofs.lemmas.List.{drop_at, take_at}
 use Rattle.hound_writer.specs.{containers_in}
 use Rattle.hound_sample.proofs.Joined.{joined}
-use Rattle.hound_slices.specs.Writing.{Encodes, IsEncodeError}
 use Rattle.hound_slices.proofs.Checks.{not_encoded, passed}
 use Rattle.hound_slices.proofs.writing.encode_block.Goals as goal
 

@@ -1,5 +1,5 @@
 use Rattle.std.proofs.lemmas.Result.{err_from_is_err_and}
-use Rattle.std.proofs.Common.{◌≡◌, ◌+◌, ◌-◌, ◌*◌, ◌%◌, ◌≤◌, ◌++◌, Ok, length, take, drop, refl, sym, ◌∙◌, ap, subst, arith, rules, length-append, length-drop}
+use Rattle.std.proofs.Common.{◌≡◌, ◌+◌, ◌-◌, ◌*◌, ◌%◌, ◌≤◌, ◌++◌, length, take, drop, refl, sym, ◌∙◌, ap, subst, arith, rules, length-append, length-drop}
 use Rattle.std.proofs.lemmas.List.{take_at}
 use Rattle.std.proofs.lemmas.Slice.{drop-append-drop}
 use Rattle.hound_slices.proofs.Puts.{drop_put, put, take_put}
@@ -9,7 +9,6 @@ use Rattle.hound_spec.proofs.HeaderLemmas.{data_start_least, length-header, leng
 use Rattle.hound_sample.specs.{joined_containers}
 use Rattle.hound_writer.specs.{containers_in}
 use Rattle.hound_sample.proofs.Joined.{joined}
-use Rattle.hound_slices.specs.Writing.{WritesFile, IsWriteError}
 use Rattle.hound_slices.proofs.Checks.{not_written, passed}
 use Rattle.hound_slices.proofs.writing.write_file.Goals as goal
 
