@@ -46,7 +46,7 @@ impl<M: Medium> Placed for Target<M> {
 impl<M: Medium> Medium for Target<M> {
     ghost replays = { λ t. law_by_target (λ s. WhereKeeps M.tells M.keeps (s.contents ≡ overlay s.start s.past))
         M.replays (λ d tells keeps.
-            replays_own M.keeps (M.state d.inner) d.faults d.flushed keeps (M.replays d.inner tells keeps)) t };
+        replays_own M.keeps (M.state d.inner) d.faults d.flushed keeps (M.replays d.inner tells keeps)) t };
 
     fn put(&mut self, bytes: &[u8]) -> io::Result<usize> {
         match self {
