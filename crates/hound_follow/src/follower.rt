@@ -1,4 +1,5 @@
-// The reads by which a program follows a recording.
+// The reads by which a program follows a recording. All of it is compiled into its caller: a function that returned a
+// follower by memory would let the converter of the portable C file take numbers for addresses.
 ghost use Rattle.std.specs.Prelude.{◌≡◌};
 ghost use Rattle.hound_walk.specs.{IsSoundOption, IsSoundSpec};
 ghost use Rattle.hound_follow.specs.Following.{FollowsNext, IsSoundFollower, IsSoundLength, IsSoundRecording, TakesHeaderPart, TakesRead, after_byte, after_count, after_length, counted_by, look_ended, first_walk, recording_of, requested_by, look_requests, whole_bytes};

@@ -1,4 +1,4 @@
-// The follower of a recording that another program makes.
+// The follower of a recording that another program makes; it is compiled into its caller as the one that it calls is.
 ghost use Rattle.std.specs.Prelude.{◌≡◌, ◌≤◌, IfOk, IfSome};
 ghost use Rattle.hound_follow.specs.{IsSoundFollower, IsSoundLength, IsSoundRecording};
 ghost use Rattle.hound_slices.specs.Effects.{effect_of};

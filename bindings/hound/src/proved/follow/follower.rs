@@ -1,5 +1,6 @@
 // Made from crates/hound_follow by scripts/erase.py: change that, and not this.
-// The reads by which a program follows a recording.
+// The reads by which a program follows a recording. All of it is compiled into its caller: a function that returned a
+// follower by memory would let the converter of the portable C file take numbers for addresses.
 
 use crate::proved::number::u32_at;
 use crate::proved::spec::{WavSpecEx, riff_size_fits};
@@ -69,6 +70,7 @@ pub(crate) struct Outcome {
 }
 
 // A look that ends so, after which the next one begins.
+#[inline(always)]
 fn ended(follower: Follower, returned: Result<FollowStep, FollowError>) -> Outcome {
     let follower = match follower {
         Follower::Walks(_) => Follower::new(),
@@ -78,12 +80,14 @@ fn ended(follower: Follower, returned: Result<FollowStep, FollowError>) -> Outco
 }
 
 // A look that continues with a request.
+#[inline(always)]
 fn requests(follower: Follower) -> Outcome {
     let (place, length) = follower.request();
     Outcome { follower, returned: Ok(FollowStep::Reads(place, length)) }
 }
 
 // What comes of a part of the header.
+#[inline(always)]
 fn after_part(walk: HeadWalk, bytes: &[u8]) -> Outcome {
     match take_part(walk, bytes) {
         Ok(Step::Next(next)) => requests(Follower::Walks(next)),
@@ -99,12 +103,14 @@ fn after_part(walk: HeadWalk, bytes: &[u8]) -> Outcome {
 
 impl Recording {
     // How many of so many bytes are whole frames.
+    #[inline(always)]
     fn whole_frames(self, length: u32) -> u32 {
         let frame = self.spec_ex.spec.channels as u32 * self.spec_ex.bytes_per_sample as u32;
         length - length % frame
     }
 
     // What comes of a data length.
+    #[inline(always)]
     fn after_count(self, length: u32) -> Outcome {
         if !riff_size_fits(self.data_start, length as u64) {
             let follower = Follower::Looks(self, Look::Length);
@@ -117,6 +123,7 @@ impl Recording {
     }
 
     // What comes of all four bytes of the data length.
+    #[inline(always)]
     fn after_length(self, bytes: &[u8]) -> Outcome {
         let follower = Follower::Looks(self, Look::Length);
         if bytes.len() < 4 {
@@ -129,6 +136,7 @@ impl Recording {
     }
 
     // What comes of one of them.
+    #[inline(always)]
     fn after_byte(self, number: u32, above: u32, bytes: &[u8]) -> Outcome {
         if bytes.len() == 0 {
             let follower = Follower::Looks(self, Look::Length);
@@ -142,6 +150,7 @@ impl Recording {
     }
 
     // What comes of what was requested of the data length.
+    #[inline(always)]
     fn after_look(self, look: Look, bytes: &[u8]) -> Outcome {
         match look {
             Look::Length => self.after_length(bytes),
@@ -152,11 +161,13 @@ impl Recording {
 
 impl Follower {
     /// A follower of a file of which nothing was read yet.
+    #[inline(always)]
     pub fn new() -> Follower {
         Follower::Walks(HeadWalk { found: None, taken: 0, part: Part::Front })
     }
 
     /// The recording, once all of its header was there.
+    #[inline(always)]
     pub fn recording(self) -> Option<Recording> {
         match self {
             Follower::Walks(_) => None,
@@ -165,6 +176,7 @@ impl Follower {
     }
 
     /// How many bytes of whole frames the header has counted, at most so far; 0 before all of it was there.
+    #[inline(always)]
     pub fn counted(self) -> u32 {
         match self {
             Follower::Walks(_) => 0,
@@ -173,6 +185,7 @@ impl Follower {
     }
 
     /// Where it reads next, and how many bytes.
+    #[inline(always)]
     pub fn request(self) -> (u64, u32) {
         let (recording, look) = match self {
             Follower::Walks(walk) => return (walk.start(), walk.length() as u32),
@@ -190,6 +203,7 @@ impl Follower {
     ///
     /// A look ends with another result than a request. The next call, without a report, begins the next look. Between
     /// the two the caller may read what [`Recording::counted`] counts.
+    #[inline(always)]
     pub fn next(&mut self, bytes: &[u8], report: Report) -> Result<FollowStep, FollowError> {
         let outcome = match report {
             Report::Pending => requests(*self),
