@@ -1,17 +1,29 @@
 // Following a recording over a journal: as it is after each byte written, and while a length is written over another.
-ghost use Rattle.hound.specs.{IsSoundFollower};
+ghost use Rattle.hound.specs.{IsSoundFollower, IsSoundSpec};
 
-use hound::{FollowStep, Follower, Journal, Recording, Report, WavSpecEx, WavWriter};
+use hound::{
+    FollowStep, Follower, Journal, Recording, Report, SampleFormat, WavSpec, WavSpecEx, WavWriter,
+};
 use hound_callers::follow_meanwhile;
-use hound_test_helpers::integers;
 use std::alloc::Global;
 use std::test::Fail;
 
 const HEADER: usize = 44;
 
 // Mono, 8000 Hz, 8 bits.
-fn eight() -> WavSpecEx {
-    integers(1, 8000, 8, 1)
+fn eight() -> WavSpecEx
+    ensures { IsSoundSpec result }
+{
+    let spec = WavSpec {
+        channels: 1,
+        sample_rate: 8000,
+        bits_per_sample: 8,
+        sample_format: SampleFormat::Int,
+    };
+    WavSpecEx {
+        spec,
+        bytes_per_sample: 1,
+    }
 }
 
 // 254 samples, a flush, four more, a flush: the lengths are fe and 0102 in hexadecimal, so that some bytes of one and
