@@ -1,6 +1,6 @@
 /* The functions of hound.h in C99 (and C++11), for computers that bindings/lib has no library for.
    scripts/portable/convert.py makes this file from the proved module hound_c.wasm, whose sha256 is
-   8671a083c10e49e90a3e6a87c4d4ea4c3190812448e602f6fc9a23c0afc5734d: don't edit it.
+   5779bec35a5066df9912830329af96bf13e311c10fd751c924666ab2fc3b18de: don't edit it.
      cc -O3 -c bindings/c/hound_c.c
 
    Numbers are the module's: an i32 is a uint32_t, an i64 or an address a uint64_t, and an address is
@@ -118,6 +118,16 @@ int32_t hound_walk_next(hound_walk *walk, hound_info_t *info) HOUND_NONNULL;
 int32_t hound_walk_to_end(hound_walk *walk, hound_info_t *info) HOUND_NONNULL;
 int64_t hound_whole_frames(const hound_spec *spec, uint64_t length) HOUND_NONNULL;
 int64_t hound_guess_data(const uint8_t *file, size_t length) HOUND_NONNULL;
+typedef struct {
+    hound_effect effect;
+    uint64_t data_start;
+    hound_spec spec;
+    uint32_t counted;
+    uint32_t last, above, taken, part, fmt_length, unused;
+} hound_follower;
+#define HOUND_FOLLOWER_BEGIN {{0, 0, 0, 0, {0}}, 0, {0, 0, 0, 0, 0}, 0, 0, 0, 0, 0, 0, 0}
+enum { HOUND_NOTHING_NEW = 2 };
+int32_t hound_follower_next(hound_follower *follower) HOUND_NONNULL;
 enum {
     HOUND_KIND_UNKNOWN = 65536,
     HOUND_KIND_RIFX,
@@ -233,6 +243,11 @@ HOUND_ASSERT(sizeof(hound_effect) == 56 && offsetof(hound_effect, length) == 8
              && offsetof(hound_effect, bytes) == 16);
 HOUND_ASSERT(sizeof(hound_walk) == 80 && offsetof(hound_walk, spec) == 56 && offsetof(hound_walk, taken) == 68
              && offsetof(hound_walk, part) == 72 && offsetof(hound_walk, fmt_length) == 76);
+HOUND_ASSERT(sizeof(hound_follower) == 104 && offsetof(hound_follower, data_start) == 56
+             && offsetof(hound_follower, spec) == 64 && offsetof(hound_follower, counted) == 76
+             && offsetof(hound_follower, last) == 80 && offsetof(hound_follower, above) == 84
+             && offsetof(hound_follower, taken) == 88 && offsetof(hound_follower, part) == 92
+             && offsetof(hound_follower, fmt_length) == 96 && offsetof(hound_follower, unused) == 100);
 HOUND_ASSERT(sizeof(hound_repairer) == 120 && offsetof(hound_repairer, length) == 56
              && offsetof(hound_repairer, place) == 64 && offsetof(hound_repairer, data_start) == 72
              && offsetof(hound_repairer, spec) == 80 && offsetof(hound_repairer, data_length) == 92
@@ -283,16 +298,16 @@ HOUND_ASSERT(sizeof(hound_recorder) == 88 && offsetof(hound_recorder, data_start
 #endif
 
 /* The module's constants. */
-static const uint8_t data[272] = {
+static const uint8_t data[288] = {
     82, 73, 70, 70, 87, 65, 86, 69, 100, 97, 116, 97, 102, 109, 116, 32, 1, 0, 0, 0, 0, 0, 16, 0, 128, 0, 0, 170, 0, 56, 155, 113,
     3, 0, 0, 0, 0, 0, 16, 0, 128, 0, 0, 170, 0, 56, 155, 113, 76, 73, 83, 84, 73, 78, 70, 79, 102, 97, 99, 116, 99, 117, 101, 32,
     112, 108, 115, 116, 74, 85, 78, 75, 80, 65, 68, 32, 68, 73, 83, 80, 105, 110, 115, 116, 115, 109, 112, 108, 98, 101, 120, 116, 108, 101, 118, 108,
     99, 97, 114, 116, 97, 120, 109, 108, 99, 104, 110, 97, 105, 88, 77, 76, 95, 80, 77, 88, 105, 100, 51, 32, 73, 68, 51, 32, 97, 99, 105, 100,
-    115, 116, 114, 99, 97, 102, 115, 112, 80, 69, 65, 75, 70, 76, 76, 82, 251, 255, 255, 255, 248, 255, 255, 255, 249, 255, 255, 255, 250, 255, 255, 255,
-    227, 255, 255, 255, 226, 255, 255, 255, 229, 255, 255, 255, 228, 255, 255, 255, 251, 255, 255, 255, 248, 255, 255, 255, 249, 255, 255, 255, 0, 0, 0, 0,
-    0, 0, 0, 0, 0, 0, 0, 0, 0, 0, 0, 0, 228, 255, 255, 255, 251, 255, 255, 255, 255, 255, 255, 255, 248, 255, 255, 255, 255, 255, 255, 255,
-    249, 255, 255, 255, 255, 255, 255, 255, 250, 255, 255, 255, 255, 255, 255, 255, 227, 255, 255, 255, 255, 255, 255, 255, 226, 255, 255, 255, 255, 255, 255, 255,
-    229, 255, 255, 255, 255, 255, 255, 255, 228, 255, 255, 255, 255, 255, 255, 255};
+    115, 116, 114, 99, 97, 102, 115, 112, 80, 69, 65, 75, 70, 76, 76, 82, 1, 0, 0, 0, 0, 0, 0, 0, 2, 0, 0, 0, 251, 255, 255, 255,
+    248, 255, 255, 255, 249, 255, 255, 255, 250, 255, 255, 255, 227, 255, 255, 255, 226, 255, 255, 255, 229, 255, 255, 255, 228, 255, 255, 255, 251, 255, 255, 255,
+    248, 255, 255, 255, 249, 255, 255, 255, 0, 0, 0, 0, 0, 0, 0, 0, 0, 0, 0, 0, 0, 0, 0, 0, 228, 255, 255, 255, 0, 0, 0, 0,
+    251, 255, 255, 255, 255, 255, 255, 255, 248, 255, 255, 255, 255, 255, 255, 255, 249, 255, 255, 255, 255, 255, 255, 255, 250, 255, 255, 255, 255, 255, 255, 255,
+    227, 255, 255, 255, 255, 255, 255, 255, 226, 255, 255, 255, 255, 255, 255, 255, 229, 255, 255, 255, 255, 255, 255, 255, 228, 255, 255, 255, 255, 255, 255, 255};
 #define DATA(place) ((uint64_t)(uintptr_t)(data + (place)))
 
 /* The module's stack for one call: `sp` is its end, a multiple of 16. */
@@ -398,38 +413,39 @@ static uint64_t f64_hound_f32_to_f64(uint64_t l0, uint64_t l1, uint64_t l2, uint
 static uint64_t f66_hound_f64_to_f32(uint64_t l0, uint64_t l1, uint64_t l2, uint64_t l3, uint64_t l4);
 static uint64_t f68_hound_filler(uint64_t l0, uint64_t l1, uint64_t l2);
 static uint32_t f70_hound_find_damage(uint64_t sp, uint64_t l0, uint64_t l1, uint64_t l2);
-static uint64_t f72_hound_from_f32(uint64_t sp, uint64_t l0, uint64_t l1, uint64_t l2, uint64_t l3, uint64_t l4, uint64_t l5);
-static uint64_t f74_hound_from_f64(uint64_t sp, uint64_t l0, uint64_t l1, uint64_t l2, uint64_t l3, uint64_t l4, uint64_t l5);
-static uint64_t f76_hound_guess_data(uint64_t l0, uint64_t l1);
-static uint64_t f78_hound_header(uint64_t sp, uint64_t l0, uint64_t l1, uint64_t l2, uint64_t l3);
-static uint32_t f80_hound_info(uint64_t sp, uint64_t l0, uint64_t l1, uint64_t l2);
-static uint32_t f82_hound_kind(uint64_t l0, uint64_t l1);
-static uint64_t f84_hound_read_f32(uint64_t sp, uint64_t l0, uint64_t l1, uint64_t l2, uint64_t l3, uint64_t l4);
-static uint64_t f86_hound_read_i16(uint64_t sp, uint64_t l0, uint64_t l1, uint64_t l2, uint64_t l3, uint64_t l4);
-static uint64_t f88_hound_read_i32(uint64_t sp, uint64_t l0, uint64_t l1, uint64_t l2, uint64_t l3, uint64_t l4);
-static uint32_t f90_hound_recorder_begin(uint64_t l0, uint64_t l1);
-static void f92_hound_recorder_checkpoint(uint64_t sp, uint64_t l0);
-static uint64_t f94_hound_recorder_frames_left(uint64_t l0);
-static uint32_t f96_hound_recorder_next(uint64_t sp, uint64_t l0);
-static uint32_t f98_hound_recorder_resume(uint64_t l0, uint32_t l1, uint64_t l2);
-static uint32_t f100_hound_recorder_write(uint64_t sp, uint64_t l0, uint64_t l1);
-static uint64_t f102_hound_repair(uint64_t sp, uint64_t l0, uint64_t l1, uint64_t l2, uint64_t l3);
-static uint64_t f104_hound_repair_to_end(uint64_t sp, uint64_t l0, uint64_t l1, uint64_t l2, uint64_t l3);
-static void f106_hound_repairer_begin(uint64_t l0, uint32_t l1, uint64_t l2);
-static uint32_t f108_hound_repairer_next(uint64_t sp, uint64_t l0, uint64_t l1);
-static uint64_t f110_hound_size(uint64_t l0, uint64_t l1);
-static uint64_t f112_hound_sizes(uint64_t l0, uint64_t l1, uint64_t l2, uint64_t l3, uint64_t l4);
-static uint64_t f114_hound_to_f32(uint64_t sp, uint64_t l0, uint64_t l1, uint64_t l2, uint64_t l3, uint64_t l4);
-static uint64_t f116_hound_to_f64(uint64_t l0, uint64_t l1, uint64_t l2, uint64_t l3, uint64_t l4);
-static uint32_t f118_hound_value_16(uint32_t l0);
-static uint32_t f120_hound_value_24(uint32_t l0);
-static uint32_t f124_hound_value_8(uint32_t l0);
-static uint32_t f128_hound_walk_next(uint64_t sp, uint64_t l0, uint64_t l1);
-static uint32_t f130_hound_walk_to_end(uint64_t sp, uint64_t l0, uint64_t l1);
-static uint64_t f132_hound_whole_frames(uint64_t l0, uint64_t l1);
-static uint64_t f134_hound_write_f32(uint64_t sp, uint64_t l0, uint64_t l1, uint64_t l2, uint64_t l3, uint64_t l4);
-static uint64_t f136_hound_write_i16(uint64_t sp, uint64_t l0, uint64_t l1, uint64_t l2, uint64_t l3, uint64_t l4);
-static uint64_t f138_hound_write_i32(uint64_t sp, uint64_t l0, uint64_t l1, uint64_t l2, uint64_t l3, uint64_t l4);
+static uint32_t f72_hound_follower_next(uint64_t sp, uint64_t l0);
+static uint64_t f74_hound_from_f32(uint64_t sp, uint64_t l0, uint64_t l1, uint64_t l2, uint64_t l3, uint64_t l4, uint64_t l5);
+static uint64_t f76_hound_from_f64(uint64_t sp, uint64_t l0, uint64_t l1, uint64_t l2, uint64_t l3, uint64_t l4, uint64_t l5);
+static uint64_t f78_hound_guess_data(uint64_t l0, uint64_t l1);
+static uint64_t f80_hound_header(uint64_t sp, uint64_t l0, uint64_t l1, uint64_t l2, uint64_t l3);
+static uint32_t f82_hound_info(uint64_t sp, uint64_t l0, uint64_t l1, uint64_t l2);
+static uint32_t f84_hound_kind(uint64_t l0, uint64_t l1);
+static uint64_t f86_hound_read_f32(uint64_t sp, uint64_t l0, uint64_t l1, uint64_t l2, uint64_t l3, uint64_t l4);
+static uint64_t f88_hound_read_i16(uint64_t sp, uint64_t l0, uint64_t l1, uint64_t l2, uint64_t l3, uint64_t l4);
+static uint64_t f90_hound_read_i32(uint64_t sp, uint64_t l0, uint64_t l1, uint64_t l2, uint64_t l3, uint64_t l4);
+static uint32_t f92_hound_recorder_begin(uint64_t l0, uint64_t l1);
+static void f94_hound_recorder_checkpoint(uint64_t sp, uint64_t l0);
+static uint64_t f96_hound_recorder_frames_left(uint64_t l0);
+static uint32_t f98_hound_recorder_next(uint64_t sp, uint64_t l0);
+static uint32_t f100_hound_recorder_resume(uint64_t l0, uint32_t l1, uint64_t l2);
+static uint32_t f102_hound_recorder_write(uint64_t sp, uint64_t l0, uint64_t l1);
+static uint64_t f104_hound_repair(uint64_t sp, uint64_t l0, uint64_t l1, uint64_t l2, uint64_t l3);
+static uint64_t f106_hound_repair_to_end(uint64_t sp, uint64_t l0, uint64_t l1, uint64_t l2, uint64_t l3);
+static void f108_hound_repairer_begin(uint64_t l0, uint32_t l1, uint64_t l2);
+static uint32_t f110_hound_repairer_next(uint64_t sp, uint64_t l0, uint64_t l1);
+static uint64_t f112_hound_size(uint64_t l0, uint64_t l1);
+static uint64_t f114_hound_sizes(uint64_t l0, uint64_t l1, uint64_t l2, uint64_t l3, uint64_t l4);
+static uint64_t f116_hound_to_f32(uint64_t sp, uint64_t l0, uint64_t l1, uint64_t l2, uint64_t l3, uint64_t l4);
+static uint64_t f118_hound_to_f64(uint64_t l0, uint64_t l1, uint64_t l2, uint64_t l3, uint64_t l4);
+static uint32_t f120_hound_value_16(uint32_t l0);
+static uint32_t f122_hound_value_24(uint32_t l0);
+static uint32_t f126_hound_value_8(uint32_t l0);
+static uint32_t f130_hound_walk_next(uint64_t sp, uint64_t l0, uint64_t l1);
+static uint32_t f132_hound_walk_to_end(uint64_t sp, uint64_t l0, uint64_t l1);
+static uint64_t f134_hound_whole_frames(uint64_t l0, uint64_t l1);
+static uint64_t f136_hound_write_f32(uint64_t sp, uint64_t l0, uint64_t l1, uint64_t l2, uint64_t l3, uint64_t l4);
+static uint64_t f138_hound_write_i16(uint64_t sp, uint64_t l0, uint64_t l1, uint64_t l2, uint64_t l3, uint64_t l4);
+static uint64_t f140_hound_write_i32(uint64_t sp, uint64_t l0, uint64_t l1, uint64_t l2, uint64_t l3, uint64_t l4);
 
 /* hound_walk::parts::find_samples */
 static void f3_find_samples(uint64_t sp, uint64_t l0, uint64_t l1, uint64_t l2) {
@@ -3470,259 +3486,296 @@ L22:;
     default: goto L27;
     }
 L27:;
-    switch ((uint32_t)(((uint64_t)l11) & 255ull)) {
-    case 1: goto L41;
-    case 2: goto L40;
-    case 3: goto L35;
-    default: goto L42;
+    l19 = 0ull;
+    l18 = 0ull;
+    l10 = (uint64_t)l11;
+    switch ((uint32_t)(l10 & 255ull)) {
+    case 1: goto L31;
+    case 2: goto L30;
+    case 3: goto L29;
+    default: goto L28;
     }
-L42:;
-    l11 = 0u;
+L31:;
+    l18 = ((uint64_t)l12) + 12ull;
+    goto L28;
+L30:;
+    l18 = ((uint64_t)l12) + 11ull;
+    goto L28;
+L29:;
+    l18 = ((uint64_t)l12) + 20ull;
+L28:;
+    l18 = l1 - l18;
+    if ((l18 > l1 ? 0ull : l18) >= l5) goto L32;
+    l20 = 0u;
+    l11 = 1u;
+    l16 = 0u;
+    l10 = 0ull;
+    l5 = 0ull;
+    l18 = 0ull;
+    l7 = 0u;
+    l21 = 0u;
+    l8 = 0u;
+    l22 = 0u;
+    l15 = 0ull;
+    l1 = 0ull;
+    l23 = 0u;
+    l17 = 0u;
+    l2 = 0u;
+    goto L3;
+L32:;
+    switch ((uint32_t)(l10 & 255ull)) {
+    case 1: goto L46;
+    case 2: goto L45;
+    case 3: goto L40;
+    default: goto L47;
+    }
+L47:;
+    l8 = 0u;
     FILL(l6 + 360ull, 0u, 104ull);
     store64(l6 + 472, l5);
     store64(l6 + 464, l4);
     f4_read_riff_header(sp, l6 + 360ull, l6 + 464ull);
-    l17 = load8(l6 + 360);
-    if (l17 != 0) goto L44;
-    l20 = 1u;
-    l21 = 0u;
-    l8 = 0u;
-    goto L43;
-L44:;
+    l11 = load8(l6 + 360);
+    if (l11 != 0) goto L49;
+    l22 = 1u;
     l20 = 0u;
-    l12 = (uint32_t)(load8(l6 + 368) == 1u);
-    l8 = l12 != 0 ? load8(l6 + 370) : 0u;
-    l21 = l12 != 0 ? load8(l6 + 369) : 0u;
-L43:;
-    l18 = 0ull;
-    l3 = 0ull;
-    l19 = 0ull;
-    goto L34;
-L41:;
-    l11 = 0u;
-    l8 = 2u;
-    l17 = 1u;
-    l18 = 0ull;
-    if (l12 > 0xfffffff7u) goto L7;
-    l11 = 0u;
-    if (l5 < 8ull) goto L39;
-    l22 = load8(l4 + 4);
-    l16 = (((load8(l4 + 5) << 8) | (load8(l4 + 6) << 16)) | (load8(l4 + 7) << 24)) | l22;
-    l23 = load8(l4 + 3ull);
-    l24 = load8(l4 + 1ull);
-    l25 = load8(l4);
-    l26 = load8(l4 + 2ull);
-    if (l26 != 116u) goto L45;
-    if ((l25 & 255u) != 100u) goto L45;
-    if ((l24 & 255u) != 97u) goto L45;
-    if ((l23 & 255u) != 97u) goto L45;
-    t1 = f5_groups_equal(l4, 4ull, DATA(8));
-    if (t1 == 0) goto L45;
-    if ((l7 & 255u) != 0) goto L37;
-    goto L8;
-L45:;
-    l11 = 0u;
-    l3 = 0ull;
-    l19 = 0ull;
-    l20 = 0u;
-    l15 = 0ull;
-    l21 = 1u;
-    l10 = 0ull;
-    l1 = 0ull;
-    l2 = 0u;
-    l5 = (uint64_t)l16;
-    l27 = l12 + 8u;
-    if (((l5 + ((uint64_t)l27)) + (l5 & 1ull)) > 0xffffffffull) goto L4;
-    if (l26 != 116u) goto L32;
-    if ((l25 & 255u) != 102u) goto L32;
-    if ((l24 & 255u) != 109u) goto L32;
-    if ((l23 & 255u) != 32u) goto L32;
-    t2 = f5_groups_equal(l4, 4ull, DATA(12));
-    if (t2 == 0) goto L32;
-    l20 = 3u;
-    l11 = l12;
-    l15 = l5;
-    goto L30;
-L40:;
-    l18 = 0ull;
-    if (!(l5 == 0)) goto L46;
-    l11 = 0u;
-    l17 = 1u;
-    goto L39;
-L46:;
-    l11 = 0u;
-    l8 = 2u;
-    l17 = 1u;
-    if (l12 > 0xfffffff7u) goto L7;
-    l11 = 0u;
-    if (l5 >= 9ull) goto L38;
-L39:;
-    l3 = 0ull;
-    l19 = 0ull;
-    l20 = 0u;
-    l15 = 0ull;
-    goto L33;
-L38:;
-    l5 = l4 + 1ull;
-    l22 = load8(l4 + 5ull);
-    l16 = (((load8(l4 + 6ull) << 8) | (load8(l4 + 7ull) << 16)) | (load8(l4 + 8ull) << 24)) | l22;
-    l23 = load8(l4 + 4ull);
-    l24 = load8(l4 + 2ull);
-    l25 = load8(l4 + 1ull);
-    l26 = load8(l4 + 3ull);
-    if (l26 != 116u) goto L36;
-    if ((l25 & 255u) != 100u) goto L36;
-    if ((l24 & 255u) != 97u) goto L36;
-    if ((l23 & 255u) != 97u) goto L36;
-    t3 = f5_groups_equal(l5, 4ull, DATA(8));
-    if (t3 == 0) goto L36;
-    if ((l7 & 255u) == 0) goto L8;
-L37:;
-    l10 = 1ull;
-    l15 = ((uint64_t)l12) + 20ull;
-    l18 = (uint64_t)l16;
-    l19 = l15 + l18;
-    if (l1 != (l19 + 1ull)) goto L28;
-    l17 = 0u;
-    l19 = 0ull;
-    l18 = l14;
-    l3 = l13;
-    l11 = l16;
-    l20 = 0u;
-    goto L29;
-L36:;
-    l11 = 0u;
-    l3 = 0ull;
-    l19 = 0ull;
-    l20 = 0u;
-    l15 = 0ull;
-    l21 = 1u;
-    l10 = 0ull;
-    l1 = 0ull;
-    l2 = 0u;
-    l4 = (uint64_t)l16;
-    l27 = l12 + 8u;
-    if (((l4 + ((uint64_t)l27)) + (l4 & 1ull)) > 0xffffffffull) goto L4;
-    if (l26 != 116u) goto L47;
-    if ((l25 & 255u) != 102u) goto L47;
-    if ((l24 & 255u) != 109u) goto L47;
-    if ((l23 & 255u) != 32u) goto L47;
-    t4 = f5_groups_equal(l5, 4ull, DATA(12));
-    if (t4 == 0) goto L47;
-    l20 = 3u;
-    l11 = l12;
-    l15 = l4;
-    goto L30;
-L47:;
-    l17 = l16 + (l22 & 1u);
-    l20 = l17 != 0 ? 2u : 1u;
-    l11 = l17 + l27;
-    goto L31;
-L35:;
-    l11 = 0u;
-    FILL(l6 + 360ull, 0u, 104ull);
-    l18 = 0ull;
-    if ((((((uint64_t)l12) + (l15 & 0xffffffffull)) + (l15 & 1ull)) + 8ull) <= 0xffffffffull) goto L49;
-    l8 = 2u;
-    l17 = 1u;
-    l3 = 0ull;
-    l21 = 1u;
+    l16 = 0u;
     goto L48;
 L49:;
+    l22 = 0u;
+    l17 = (uint32_t)(load8(l6 + 368) == 1u);
+    l16 = l17 != 0 ? load8(l6 + 370) : 0u;
+    l20 = l17 != 0 ? load8(l6 + 369) : 0u;
+L48:;
+    l18 = 0ull;
+    l3 = 0ull;
+    l5 = 0ull;
+    goto L39;
+L46:;
+    l8 = 0u;
+    l16 = 2u;
+    l11 = 1u;
+    l18 = 0ull;
+    if (l12 > 0xfffffff7u) goto L7;
+    l8 = 0u;
+    if (l5 < 8ull) goto L44;
+    l24 = load8(l4 + 4);
+    l17 = (((load8(l4 + 5) << 8) | (load8(l4 + 6) << 16)) | (load8(l4 + 7) << 24)) | l24;
+    l25 = load8(l4 + 3ull);
+    l23 = load8(l4 + 1ull);
+    l21 = load8(l4);
+    l26 = load8(l4 + 2ull);
+    if (l26 != 116u) goto L50;
+    if ((l21 & 255u) != 100u) goto L50;
+    if ((l23 & 255u) != 97u) goto L50;
+    if ((l25 & 255u) != 97u) goto L50;
+    t1 = f5_groups_equal(l4, 4ull, DATA(8));
+    if (t1 == 0) goto L50;
+    if ((l7 & 255u) != 0) goto L42;
+    goto L8;
+L50:;
+    l8 = 0u;
+    l3 = 0ull;
+    l5 = 0ull;
+    l22 = 0u;
+    l15 = 0ull;
+    l20 = 1u;
+    l10 = 0ull;
+    l1 = 0ull;
+    l2 = 0u;
+    l19 = (uint64_t)l17;
+    l27 = l12 + 8u;
+    if (((l19 + ((uint64_t)l27)) + (l19 & 1ull)) > 0xffffffffull) goto L4;
+    if (l26 != 116u) goto L37;
+    if ((l21 & 255u) != 102u) goto L37;
+    if ((l23 & 255u) != 109u) goto L37;
+    if ((l25 & 255u) != 32u) goto L37;
+    t2 = f5_groups_equal(l4, 4ull, DATA(12));
+    if (t2 == 0) goto L37;
+    l22 = 3u;
+    l8 = l12;
+    l15 = l19;
+    goto L35;
+L45:;
+    l18 = 0ull;
+    if (!(l5 == 0)) goto L51;
+    l8 = 0u;
+    l11 = 1u;
+    goto L44;
+L51:;
+    l8 = 0u;
+    l16 = 2u;
+    l11 = 1u;
+    if (l12 > 0xfffffff7u) goto L7;
+    l8 = 0u;
+    if (l5 >= 9ull) goto L43;
+L44:;
+    l3 = 0ull;
+    l5 = 0ull;
+    l22 = 0u;
+    l15 = 0ull;
+    goto L38;
+L43:;
+    l19 = l4 + 1ull;
+    l24 = load8(l4 + 5ull);
+    l17 = (((load8(l4 + 6ull) << 8) | (load8(l4 + 7ull) << 16)) | (load8(l4 + 8ull) << 24)) | l24;
+    l25 = load8(l4 + 4ull);
+    l23 = load8(l4 + 2ull);
+    l21 = load8(l4 + 1ull);
+    l26 = load8(l4 + 3ull);
+    if (l26 != 116u) goto L41;
+    if ((l21 & 255u) != 100u) goto L41;
+    if ((l23 & 255u) != 97u) goto L41;
+    if ((l25 & 255u) != 97u) goto L41;
+    t3 = f5_groups_equal(l19, 4ull, DATA(8));
+    if (t3 == 0) goto L41;
+    if ((l7 & 255u) == 0) goto L8;
+L42:;
+    l10 = 1ull;
+    l15 = ((uint64_t)l12) + 20ull;
+    l18 = (uint64_t)l17;
+    l19 = l15 + l18;
+    if (l1 != (l19 + 1ull)) goto L33;
+    l11 = 0u;
+    l5 = 0ull;
+    l18 = l14;
+    l3 = l13;
+    l8 = l17;
+    l22 = 0u;
+    goto L34;
+L41:;
+    l8 = 0u;
+    l3 = 0ull;
+    l5 = 0ull;
+    l22 = 0u;
+    l15 = 0ull;
+    l20 = 1u;
+    l10 = 0ull;
+    l1 = 0ull;
+    l2 = 0u;
+    l9 = (uint64_t)l17;
+    l27 = l12 + 8u;
+    if (((l9 + ((uint64_t)l27)) + (l9 & 1ull)) > 0xffffffffull) goto L4;
+    if (l26 != 116u) goto L52;
+    if ((l21 & 255u) != 102u) goto L52;
+    if ((l23 & 255u) != 109u) goto L52;
+    if ((l25 & 255u) != 32u) goto L52;
+    t4 = f5_groups_equal(l19, 4ull, DATA(12));
+    if (t4 == 0) goto L52;
+    l22 = 3u;
+    l8 = l12;
+    l15 = l9;
+    goto L35;
+L52:;
+    l17 = l17 + (l24 & 1u);
+    l22 = l17 != 0 ? 2u : 1u;
+    l8 = l17 + l27;
+    goto L36;
+L40:;
+    l8 = 0u;
+    FILL(l6 + 360ull, 0u, 104ull);
+    l18 = 0ull;
+    if ((((((uint64_t)l12) + (l15 & 0xffffffffull)) + (l15 & 1ull)) + 8ull) <= 0xffffffffull) goto L54;
+    l16 = 2u;
+    l11 = 1u;
+    l3 = 0ull;
+    l20 = 1u;
+    goto L53;
+L54:;
     store64(l6 + 472, l5);
     store64(l6 + 464, l4);
     f6_read_fmt_chunk(sp, l6 + 360ull, l6 + 464ull, l16);
-    l17 = load8(l6 + 360);
-    if (l17 != 0) goto L50;
+    l11 = load8(l6 + 360);
+    if (l11 != 0) goto L55;
     l17 = (l16 & 1u) + l16;
-    l20 = (l16 < 40u ? l16 : 40u) == l17 ? 1u : 2u;
-    l11 = (l12 + l17) + 8u;
-    l19 = 1ull;
-    l17 = 0u;
+    l22 = (l16 < 40u ? l16 : 40u) == l17 ? 1u : 2u;
+    l8 = (l12 + l17) + 8u;
+    l5 = 1ull;
+    l11 = 0u;
     l3 = load64(l6 + 372);
     l18 = load64(l6 + 364);
-    l21 = 0u;
-    l8 = 0u;
-    goto L34;
-L50:;
-    l11 = 0u;
-    l12 = (uint32_t)(load8(l6 + 368) == 1u);
-    l8 = l12 != 0 ? load8(l6 + 370) : 0u;
-    l21 = l12 != 0 ? load8(l6 + 369) : 0u;
-    l3 = 0ull;
-L48:;
-    l19 = 0ull;
     l20 = 0u;
-L34:;
+    l16 = 0u;
+    goto L39;
+L55:;
+    l8 = 0u;
+    l17 = (uint32_t)(load8(l6 + 368) == 1u);
+    l16 = l17 != 0 ? load8(l6 + 370) : 0u;
+    l20 = l17 != 0 ? load8(l6 + 369) : 0u;
+    l3 = 0ull;
+L53:;
+    l5 = 0ull;
+    l22 = 0u;
+L39:;
     l2 = 0u;
     l15 = 0ull;
-    if (l17 == 0) goto L51;
+    if (l11 == 0) goto L56;
     l18 = 0ull;
     l3 = 0ull;
-    l19 = 0ull;
-    l11 = 0u;
-    l20 = 0u;
+    l5 = 0ull;
+    l8 = 0u;
+    l22 = 0u;
     l10 = 0ull;
     l1 = 0ull;
     goto L4;
-L51:;
-    l17 = 0u;
-L33:;
-    l21 = 0u;
-    l8 = 0u;
+L56:;
+    l11 = 0u;
+L38:;
+    l20 = 0u;
+    l16 = 0u;
     goto L6;
-L32:;
-    l17 = l16 + (l22 & 1u);
-    l20 = l17 != 0 ? 2u : 1u;
-    l11 = l17 + l27;
-L31:;
+L37:;
+    l17 = l17 + (l24 & 1u);
+    l22 = l17 != 0 ? 2u : 1u;
+    l8 = l17 + l27;
+L36:;
     l15 = 0ull;
-L30:;
-    l19 = ((uint64_t)l7) & 255ull;
+L35:;
+    l5 = ((uint64_t)l7) & 255ull;
     l10 = 0ull;
-    l17 = 0u;
+    l11 = 0u;
     l18 = l14;
     l3 = l13;
-L29:;
-    l21 = 0u;
-    l8 = 0u;
+L34:;
+    l20 = 0u;
+    l16 = 0u;
     goto L5;
-L28:;
+L33:;
     l1 = l19 + (l18 & 1ull);
     l2 = (uint32_t)((l2 & 255u) != 2u) & (uint32_t)(l1 < l3);
     l10 = l2 != 0 ? 2ull : 4ull;
-    l19 = 0ull;
+    l5 = 0ull;
     l1 = l2 != 0 ? l1 : 0ull;
-    l17 = 0u;
+    l11 = 0u;
     l18 = l14;
     l3 = l13;
-    l11 = l16;
+    l8 = l17;
+    l22 = 0u;
     l20 = 0u;
-    l21 = 0u;
-    l8 = 0u;
+    l16 = 0u;
     goto L4;
 L26:;
-    l9 = 0ull;
+    l19 = 0ull;
     l1 = 0ull;
-    if (l5 != 1ull) goto L52;
+    if (l5 != 1ull) goto L57;
     l1 = (uint64_t)(uint32_t)(load8(l4) != 0u);
-L52:;
+L57:;
     l18 = (uint64_t)l12;
     l18 = (l15 + l18) + (l18 & 1ull);
     l2 = (uint32_t)((l2 & 255u) != 2u) & (uint32_t)(l18 < l3);
     l3 = l2 != 0 ? l18 : 0ull;
-    l25 = (uint32_t)l3;
-    l16 = (uint32_t)(l3 >> 32);
+    l23 = (uint32_t)l3;
+    l17 = (uint32_t)(l3 >> 32);
     l10 = l2 != 0 ? 2ull : 4ull;
-    l7 = (uint32_t)(l13 >> 32);
-    l24 = (uint32_t)l13;
-    l17 = 0u;
-    l21 = 0u;
-    l8 = 0u;
-    l19 = 0ull;
-    l18 = l14;
-    l11 = l12;
+    l21 = (uint32_t)(l13 >> 32);
+    l7 = (uint32_t)l13;
+    l11 = 0u;
     l20 = 0u;
+    l16 = 0u;
+    l5 = 0ull;
+    l18 = l14;
+    l8 = l12;
+    l22 = 0u;
     goto L3;
 L25:;
     store64(l6 + 272, l10);
@@ -3732,152 +3785,152 @@ L25:;
     store64(l6 + 248, l13);
     store64(l6 + 240, l14);
     f22_measured(sp, l6 + 280ull, l1, l6 + 240ull);
-    if (load8(l6 + 280) != 0) goto L53;
-    l10 = (uint64_t)load16(l6 + 349ull);
-    l28 = (uint64_t)load8(l6 + 351ull);
-    l29 = (uint64_t)load32(l6 + 345);
+    if (load8(l6 + 280) != 0) goto L58;
+    l13 = (uint64_t)load16(l6 + 349ull);
+    l10 = (uint64_t)load8(l6 + 351ull);
+    l28 = (uint64_t)load32(l6 + 345);
     l2 = load8(l6 + 344);
-    l13 = load64(l6 + 336);
-    l30 = load64(l6 + 320);
-    l25 = load32(l6 + 308);
-    l21 = load32(l6 + 304);
+    l14 = load64(l6 + 336);
+    l29 = load64(l6 + 320);
+    l23 = load32(l6 + 308);
+    l20 = load32(l6 + 304);
     l18 = load64(l6 + 296);
-    l14 = load64(l6 + 288);
+    l30 = load64(l6 + 288);
     l1 = load64(l6 + 328);
     l15 = load64(l6 + 312);
     l31 = l1 + l15;
-    if (l31 <= l9) goto L59;
-    if (l5 < 4ull) goto L57;
-    l20 = load32(l4);
-    l32 = l20 >> 8;
+    if (l31 <= l9) goto L64;
+    if (l5 < 4ull) goto L62;
+    l22 = load32(l4);
+    l32 = l22 >> 8;
     l12 = l32 & 255u;
-    l33 = l20 >> 16;
+    l33 = l22 >> 16;
     l17 = l33 & 255u;
-    l16 = l20 >> 24;
-    l11 = l20 & 255u;
+    l16 = l22 >> 24;
+    l11 = l22 & 255u;
     l3 = l11 == 73u ? (l16 == 79u ? (l17 == 70u ? (l12 == 78u ? 0ull : 16ull) : 16ull) : 16ull) : 16ull;
-    l23 = (uint32_t)(l12 == 73u);
+    l25 = (uint32_t)(l12 == 73u);
     l26 = (uint32_t)(l17 == 83u);
-    l3 = l26 != 0 ? (l23 != 0 ? (l16 == 84u ? (l11 == 76u ? 0ull : l3) : l3) : l3) : l3;
-    l22 = (uint32_t)(l12 == 97u);
+    l3 = l26 != 0 ? (l25 != 0 ? (l16 == 84u ? (l11 == 76u ? 0ull : l3) : l3) : l3) : l3;
+    l24 = (uint32_t)(l12 == 97u);
     l7 = (uint32_t)(l16 == 116u);
-    l3 = l7 != 0 ? (l22 != 0 ? (l11 == 102u ? (l17 == 99u ? 0ull : l3) : l3) : l3) : l3;
-    l24 = (uint32_t)(l11 == 99u);
+    l3 = l7 != 0 ? (l24 != 0 ? (l11 == 102u ? (l17 == 99u ? 0ull : l3) : l3) : l3) : l3;
+    l21 = (uint32_t)(l11 == 99u);
     l27 = (uint32_t)(l16 == 32u);
-    l3 = l27 != 0 ? (l24 != 0 ? (l17 == 101u ? (l12 == 117u ? 0ull : l3) : l3) : l3) : l3;
+    l3 = l27 != 0 ? (l21 != 0 ? (l17 == 101u ? (l12 == 117u ? 0ull : l3) : l3) : l3) : l3;
     l34 = (uint32_t)(l17 == 115u);
     l3 = l7 != 0 ? (l34 != 0 ? (l11 == 112u ? (l12 == 108u ? 0ull : l3) : l3) : l3) : l3;
     l3 = l16 == 75u ? (l17 == 78u ? (l11 == 74u ? (l12 == 85u ? 0ull : l3) : l3) : l3) : l3;
     l3 = l27 != 0 ? (l11 == 80u ? (l17 == 68u ? (l12 == 65u ? 0ull : l3) : l3) : l3) : l3;
-    l3 = l26 != 0 ? (l23 != 0 ? (l16 == 80u ? (l11 == 68u ? 0ull : l3) : l3) : l3) : l3;
+    l3 = l26 != 0 ? (l25 != 0 ? (l16 == 80u ? (l11 == 68u ? 0ull : l3) : l3) : l3) : l3;
     l26 = (uint32_t)(l11 == 105u);
     l3 = l7 != 0 ? (l34 != 0 ? (l26 != 0 ? (l12 == 110u ? 0ull : l3) : l3) : l3) : l3;
-    l23 = (uint32_t)(l16 == 108u);
-    l3 = l23 != 0 ? (l11 == 115u ? (l17 == 112u ? (l12 == 109u ? 0ull : l3) : l3) : l3) : l3;
+    l25 = (uint32_t)(l16 == 108u);
+    l3 = l25 != 0 ? (l11 == 115u ? (l17 == 112u ? (l12 == 109u ? 0ull : l3) : l3) : l3) : l3;
     l27 = (uint32_t)(l12 == 101u);
     l3 = l7 != 0 ? (l27 != 0 ? (l11 == 98u ? (l17 == 120u ? 0ull : l3) : l3) : l3) : l3;
-    l3 = l23 != 0 ? (l27 != 0 ? (l11 == 108u ? (l17 == 118u ? 0ull : l3) : l3) : l3) : l3;
-    l3 = l7 != 0 ? (l17 == 114u ? (l24 != 0 ? (l22 != 0 ? 0ull : l3) : l3) : l3) : l3;
-    l3 = l23 != 0 ? (l11 == 97u ? (l17 == 109u ? (l12 == 120u ? 0ull : l3) : l3) : l3) : l3;
-    l3 = l24 != 0 ? (l16 == 97u ? (l17 == 110u ? (l12 == 104u ? 0ull : l3) : l3) : l3) : l3;
+    l3 = l25 != 0 ? (l27 != 0 ? (l11 == 108u ? (l17 == 118u ? 0ull : l3) : l3) : l3) : l3;
+    l3 = l7 != 0 ? (l17 == 114u ? (l21 != 0 ? (l24 != 0 ? 0ull : l3) : l3) : l3) : l3;
+    l3 = l25 != 0 ? (l11 == 97u ? (l17 == 109u ? (l12 == 120u ? 0ull : l3) : l3) : l3) : l3;
+    l3 = l21 != 0 ? (l16 == 97u ? (l17 == 110u ? (l12 == 104u ? 0ull : l3) : l3) : l3) : l3;
     l3 = l17 == 77u ? (l26 != 0 ? (l16 == 76u ? (l12 == 88u ? 0ull : l3) : l3) : l3) : l3;
     l19 = l3 ^ 25ull;
     l3 = (l3 << 2) + DATA(48);
-L62:;
-    if (((((uint32_t)(load8(l3) == l11) & (uint32_t)(load8(l3 + 1ull) == l12)) & (uint32_t)(load8(l3 + 2ull) == l17)) & (uint32_t)(load8(l3 + 3ull) == l16)) != 0) goto L61;
-    if (((((uint32_t)(load8(l3 + 4ull) == l11) & (uint32_t)(load8(l3 + 5ull) == l12)) & (uint32_t)(load8(l3 + 6ull) == l17)) & (uint32_t)(load8(l3 + 7ull) == l16)) != 0) goto L61;
-    if (((((uint32_t)(load8(l3 + 8ull) == l11) & (uint32_t)(load8(l3 + 9ull) == l12)) & (uint32_t)(load8(l3 + 10ull) == l17)) & (uint32_t)(load8(l3 + 11ull) == l16)) != 0) goto L61;
-    if (((((uint32_t)(load8(l3 + 12ull) == l11) & (uint32_t)(load8(l3 + 13ull) == l12)) & (uint32_t)(load8(l3 + 14ull) == l17)) & (uint32_t)(load8(l3 + 15ull) == l16)) != 0) goto L61;
-    if (((((uint32_t)(load8(l3 + 16ull) == l11) & (uint32_t)(load8(l3 + 17ull) == l12)) & (uint32_t)(load8(l3 + 18ull) == l17)) & (uint32_t)(load8(l3 + 19ull) == l16)) != 0) goto L61;
-    if (((((uint32_t)(load8(l3 + 20ull) == l11) & (uint32_t)(load8(l3 + 21ull) == l12)) & (uint32_t)(load8(l3 + 22ull) == l17)) & (uint32_t)(load8(l3 + 23ull) == l16)) != 0) goto L61;
-    if (((((uint32_t)(load8(l3 + 24ull) == l11) & (uint32_t)(load8(l3 + 25ull) == l12)) & (uint32_t)(load8(l3 + 26ull) == l17)) & (uint32_t)(load8(l3 + 27ull) == l16)) != 0) goto L61;
-    if (((((uint32_t)(load8(l3 + 28ull) == l11) & (uint32_t)(load8(l3 + 29ull) == l12)) & (uint32_t)(load8(l3 + 30ull) == l17)) & (uint32_t)(load8(l3 + 31ull) == l16)) != 0) goto L61;
+L67:;
+    if (((((uint32_t)(load8(l3) == l11) & (uint32_t)(load8(l3 + 1ull) == l12)) & (uint32_t)(load8(l3 + 2ull) == l17)) & (uint32_t)(load8(l3 + 3ull) == l16)) != 0) goto L66;
+    if (((((uint32_t)(load8(l3 + 4ull) == l11) & (uint32_t)(load8(l3 + 5ull) == l12)) & (uint32_t)(load8(l3 + 6ull) == l17)) & (uint32_t)(load8(l3 + 7ull) == l16)) != 0) goto L66;
+    if (((((uint32_t)(load8(l3 + 8ull) == l11) & (uint32_t)(load8(l3 + 9ull) == l12)) & (uint32_t)(load8(l3 + 10ull) == l17)) & (uint32_t)(load8(l3 + 11ull) == l16)) != 0) goto L66;
+    if (((((uint32_t)(load8(l3 + 12ull) == l11) & (uint32_t)(load8(l3 + 13ull) == l12)) & (uint32_t)(load8(l3 + 14ull) == l17)) & (uint32_t)(load8(l3 + 15ull) == l16)) != 0) goto L66;
+    if (((((uint32_t)(load8(l3 + 16ull) == l11) & (uint32_t)(load8(l3 + 17ull) == l12)) & (uint32_t)(load8(l3 + 18ull) == l17)) & (uint32_t)(load8(l3 + 19ull) == l16)) != 0) goto L66;
+    if (((((uint32_t)(load8(l3 + 20ull) == l11) & (uint32_t)(load8(l3 + 21ull) == l12)) & (uint32_t)(load8(l3 + 22ull) == l17)) & (uint32_t)(load8(l3 + 23ull) == l16)) != 0) goto L66;
+    if (((((uint32_t)(load8(l3 + 24ull) == l11) & (uint32_t)(load8(l3 + 25ull) == l12)) & (uint32_t)(load8(l3 + 26ull) == l17)) & (uint32_t)(load8(l3 + 27ull) == l16)) != 0) goto L66;
+    if (((((uint32_t)(load8(l3 + 28ull) == l11) & (uint32_t)(load8(l3 + 29ull) == l12)) & (uint32_t)(load8(l3 + 30ull) == l17)) & (uint32_t)(load8(l3 + 31ull) == l16)) != 0) goto L66;
     l3 = l3 + 32ull;
     l19 = l19 - 8ull;
-    if (l19 != 1ull) goto L62;
+    if (l19 != 1ull) goto L67;
+    goto L65;
+L66:;
+    if ((0ull - l19) < 0xfffffffffffffff8ull) goto L64;
+L65:;
+    l12 = l33 & 255u;
+    l11 = l22 & 255u;
+    l17 = l32 & 255u;
+    if (((uint32_t)(l16 == 82u) & ((uint32_t)(l12 == 76u) & ((uint32_t)(l11 == 70u) & (uint32_t)(l17 == 76u)))) != 0) goto L64;
+    if (((uint32_t)(l16 == 75u) & ((uint32_t)(l11 == 80u) & ((uint32_t)(l12 == 65u) & (uint32_t)(l17 == 69u)))) != 0) goto L64;
+    l7 = (uint32_t)(l11 == 97u);
+    if (((uint32_t)(l12 == 115u) & (l7 & ((uint32_t)(l16 == 112u) & (uint32_t)(l17 == 102u)))) != 0) goto L64;
+    if (((uint32_t)(l12 == 114u) & ((uint32_t)(l11 == 115u) & ((uint32_t)(l16 == 99u) & (uint32_t)(l17 == 116u)))) != 0) goto L64;
+    if ((l7 & ((uint32_t)(l16 == 100u) & ((uint32_t)(l12 == 105u) & (uint32_t)(l17 == 99u)))) != 0) goto L64;
+    if (((uint32_t)(l12 == 77u) & ((uint32_t)(l16 == 88u) & ((uint32_t)(l11 == 95u) & (uint32_t)(l17 == 80u)))) != 0) goto L64;
+    if (((uint32_t)(l16 == 32u) & ((uint32_t)(l12 == 51u) & (((uint32_t)(l11 == 105u) & (uint32_t)(l17 == 100u)) | ((uint32_t)(l11 == 73u) & (uint32_t)(l17 == 68u))))) == 0) goto L63;
+L64:;
+    l3 = l28 | ((l10 << 48) | (l13 << 32));
+    l5 = l30 >> 32;
+    l22 = (uint32_t)(l15 >> 32);
+    l8 = (uint32_t)l15;
+    l13 = 2ull;
+    l19 = 1ull;
+    l10 = l30;
+    l7 = l20;
+    l21 = l23;
+    l15 = l29;
+    goto L59;
+L63:;
+    if (l5 > 7ull) goto L61;
+L62:;
+    l3 = 0ull;
+    l19 = (uint64_t)l20;
+    l17 = l8 & (uint32_t)(l1 > l19);
+    l14 = l17 != 0 ? (l15 + l19) : 0ull;
+    l10 = l17 != 0 ? 2ull : ((l19 + 128ull) > l1 ? 4ull : 3ull);
+    l21 = (uint32_t)(l18 >> 32);
+    l7 = (uint32_t)l18;
+    l2 = 0u;
     goto L60;
 L61:;
-    if ((0ull - l19) < 0xfffffffffffffff8ull) goto L59;
-L60:;
-    l12 = l33 & 255u;
-    l11 = l20 & 255u;
-    l17 = l32 & 255u;
-    if (((uint32_t)(l16 == 82u) & ((uint32_t)(l12 == 76u) & ((uint32_t)(l11 == 70u) & (uint32_t)(l17 == 76u)))) != 0) goto L59;
-    if (((uint32_t)(l16 == 75u) & ((uint32_t)(l11 == 80u) & ((uint32_t)(l12 == 65u) & (uint32_t)(l17 == 69u)))) != 0) goto L59;
-    l7 = (uint32_t)(l11 == 97u);
-    if (((uint32_t)(l12 == 115u) & (l7 & ((uint32_t)(l16 == 112u) & (uint32_t)(l17 == 102u)))) != 0) goto L59;
-    if (((uint32_t)(l12 == 114u) & ((uint32_t)(l11 == 115u) & ((uint32_t)(l16 == 99u) & (uint32_t)(l17 == 116u)))) != 0) goto L59;
-    if ((l7 & ((uint32_t)(l16 == 100u) & ((uint32_t)(l12 == 105u) & (uint32_t)(l17 == 99u)))) != 0) goto L59;
-    if (((uint32_t)(l12 == 77u) & ((uint32_t)(l16 == 88u) & ((uint32_t)(l11 == 95u) & (uint32_t)(l17 == 80u)))) != 0) goto L59;
-    if (((uint32_t)(l16 == 32u) & ((uint32_t)(l12 == 51u) & (((uint32_t)(l11 == 105u) & (uint32_t)(l17 == 100u)) | ((uint32_t)(l11 == 73u) & (uint32_t)(l17 == 68u))))) == 0) goto L58;
-L59:;
-    l3 = l29 | ((l28 << 48) | (l10 << 32));
-    l19 = l14 >> 32;
-    l20 = (uint32_t)(l15 >> 32);
-    l11 = (uint32_t)l15;
-    l5 = 2ull;
-    l9 = 1ull;
-    l10 = l14;
-    l24 = l21;
-    l7 = l25;
-    l15 = l30;
-    goto L54;
-L58:;
-    if (l5 > 7ull) goto L56;
-L57:;
-    l3 = 0ull;
-    l19 = (uint64_t)l21;
-    l17 = l8 & (uint32_t)(l1 > l19);
-    l13 = l17 != 0 ? (l15 + l19) : 0ull;
-    l10 = l17 != 0 ? 2ull : ((l19 + 128ull) > l1 ? 4ull : 3ull);
-    l7 = (uint32_t)(l18 >> 32);
-    l24 = (uint32_t)l18;
-    l2 = 0u;
-    goto L55;
-L56:;
     l3 = l31 - l9;
-    if (l3 < 8ull) goto L64;
-    if (((load8(l4) - 32u) & 255u) > 94u) goto L64;
-    if (((load8(l4 + 1) - 32u) & 255u) > 94u) goto L64;
-    if (((load8(l4 + 2) - 32u) & 255u) > 94u) goto L64;
-    if (((load8(l4 + 3) - 127u) & 255u) < 161u) goto L64;
+    if (l3 < 8ull) goto L69;
+    if (((load8(l4) - 32u) & 255u) > 94u) goto L69;
+    if (((load8(l4 + 1) - 32u) & 255u) > 94u) goto L69;
+    if (((load8(l4 + 2) - 32u) & 255u) > 94u) goto L69;
+    if (((load8(l4 + 3) - 127u) & 255u) < 161u) goto L69;
     l19 = (uint64_t)load8(l4 + 4);
     l5 = (((((uint64_t)load8(l4 + 5)) << 8) | (((uint64_t)load8(l4 + 6)) << 16)) | (((uint64_t)load8(l4 + 7)) << 24)) | l19;
-    if ((l5 + 8ull) > l3) goto L64;
+    if ((l5 + 8ull) > l3) goto L69;
     l2 = l8 & 1u;
-    l13 = ((l9 + (l19 & 1ull)) + l5) + 8ull;
+    l14 = ((l9 + (l19 & 1ull)) + l5) + 8ull;
     l10 = 2ull;
-    goto L63;
-L64:;
-    l3 = (uint64_t)l21;
-    if ((l8 & 1u) == 0) goto L65;
-    if (l1 <= l3) goto L65;
-    l13 = l15 + l3;
+    goto L68;
+L69:;
+    l3 = (uint64_t)l20;
+    if ((l8 & 1u) == 0) goto L70;
+    if (l1 <= l3) goto L70;
+    l14 = l15 + l3;
     l2 = 0u;
     l10 = 2ull;
-    goto L63;
-L65:;
+    goto L68;
+L70:;
     l10 = (l3 + 128ull) > l1 ? 4ull : 3ull;
     l2 = 0u;
-    l13 = 0ull;
-L63:;
-    l7 = (uint32_t)(l18 >> 32);
-    l24 = (uint32_t)l18;
+    l14 = 0ull;
+L68:;
+    l21 = (uint32_t)(l18 >> 32);
+    l7 = (uint32_t)l18;
     l3 = 0ull;
-L55:;
-    l9 = 0ull;
+L60:;
     l19 = 0ull;
-    l18 = l14;
-    l11 = l21;
-    l20 = l25;
-    l1 = l30;
     l5 = 0ull;
-L54:;
-    l16 = (uint32_t)(l13 >> 32);
-    l25 = (uint32_t)l13;
-    l17 = 0u;
+    l18 = l30;
+    l8 = l20;
+    l22 = l23;
+    l1 = l29;
+    l13 = 0ull;
+L59:;
+    l17 = (uint32_t)(l14 >> 32);
+    l23 = (uint32_t)l14;
+    l11 = 0u;
     goto L9;
-L53:;
+L58:;
     store8(l0, 1u);
     store8(l0 + 3ull, load8(l6 + 283));
     store16(l0 + 1ull, load16(l6 + 281));
@@ -3891,36 +3944,36 @@ L24:;
     store64(l6 + 128, l13);
     store64(l6 + 120, l14);
     f22_measured(sp, l6 + 160ull, l1, l6 + 120ull);
-    if (load8(l6 + 160) != 0) goto L66;
+    if (load8(l6 + 160) != 0) goto L71;
     l18 = load64(l6 + 168);
-    l17 = 0u;
+    l11 = 0u;
     l10 = 4ull;
     l3 = 0ull;
     l30 = load64(l6 + 200);
     l15 = load64(l6 + 192);
-    l13 = load64(l6 + 184);
-    l14 = load64(l6 + 176);
+    l14 = load64(l6 + 184);
+    l9 = load64(l6 + 176);
     if (l5 != 3ull) goto L11;
     l3 = 0ull;
     if (load8(l4) != 84u) goto L11;
     l3 = 0ull;
     if (load8(l4 + 1ull) != 65u) goto L11;
-    l5 = 2ull;
+    l13 = 2ull;
     l3 = 0ull;
     if (load8(l4 + 2ull) != 71u) goto L11;
     l3 = ((uint64_t)load32(l6 + 225)) | ((((uint64_t)load8(l6 + 231ull)) << 48) | (((uint64_t)load16(l6 + 229ull)) << 32));
-    l19 = l18 >> 32;
+    l5 = l18 >> 32;
     l2 = load8(l6 + 224);
     l4 = load64(l6 + 216);
     l1 = load64(l6 + 208);
-    l9 = 1ull;
+    l19 = 1ull;
     l10 = l18;
-    l18 = l14;
-    l14 = l13;
-    l13 = l15;
+    l18 = l9;
+    l9 = l14;
+    l14 = l15;
     l15 = l30;
     goto L10;
-L66:;
+L71:;
     store8(l0, 1u);
     store8(l0 + 3ull, load8(l6 + 163));
     store16(l0 + 1ull, load16(l6 + 161));
@@ -3934,28 +3987,28 @@ L23:;
     store64(l6 + 8, l13);
     store64(l6, l14);
     f22_measured(sp, l6 + 40ull, l1, l6);
-    if (load8(l6 + 40) != 0) goto L67;
+    if (load8(l6 + 40) != 0) goto L72;
     l3 = load64(l6 + 112);
     l1 = load64(l6 + 88);
-    l16 = load32(l6 + 100);
-    l24 = load32(l6 + 64);
-    l25 = load32(l6 + 96);
-    l5 = load32(l4) != l25 ? l3 : (l24 != l16 ? l3 : (((uint32_t)(l1 == ((uint64_t)l16)) & l16) != 0 ? l3 : 0ull));
+    l17 = load32(l6 + 100);
+    l7 = load32(l6 + 64);
+    l23 = load32(l6 + 96);
+    l13 = load32(l4) != l23 ? l3 : (l7 != l17 ? l3 : (((uint32_t)(l1 == ((uint64_t)l17)) & l17) != 0 ? l3 : 0ull));
     l18 = load64(l6 + 104);
     l3 = l18 >> 8;
     l10 = load64(l6 + 48);
-    l19 = l10 >> 32;
-    l15 = load64(l6 + 72);
-    l20 = (uint32_t)(l15 >> 32);
+    l5 = l10 >> 32;
+    l19 = load64(l6 + 72);
+    l22 = (uint32_t)(l19 >> 32);
     l2 = (uint32_t)l18;
-    l11 = (uint32_t)l15;
-    l9 = 1ull;
-    l17 = 0u;
+    l8 = (uint32_t)l19;
+    l19 = 1ull;
+    l11 = 0u;
     l15 = load64(l6 + 80);
-    l7 = load32(l6 + 68);
+    l21 = load32(l6 + 68);
     l18 = load64(l6 + 56);
     goto L9;
-L67:;
+L72:;
     store8(l0, 1u);
     store8(l0 + 3ull, load8(l6 + 43));
     store16(l0 + 1ull, load16(l6 + 41));
@@ -3963,62 +4016,62 @@ L67:;
     goto L1;
     TRAP();
 L11:;
-    l9 = 0ull;
     l19 = 0ull;
+    l5 = 0ull;
     l1 = l30;
     l4 = 0ull;
     l2 = 0u;
-    l5 = 0ull;
+    l13 = 0ull;
 L10:;
-    l16 = (uint32_t)(l4 >> 32);
-    l20 = (uint32_t)(l13 >> 32);
-    l7 = (uint32_t)(l14 >> 32);
-    l25 = (uint32_t)l4;
-    l11 = (uint32_t)l13;
-    l24 = (uint32_t)l14;
+    l17 = (uint32_t)(l4 >> 32);
+    l22 = (uint32_t)(l14 >> 32);
+    l21 = (uint32_t)(l9 >> 32);
+    l23 = (uint32_t)l4;
+    l8 = (uint32_t)l14;
+    l7 = (uint32_t)l9;
 L9:;
-    l21 = 0u;
-    l8 = 0u;
+    l20 = 0u;
+    l16 = 0u;
     goto L2;
 L8:;
-    l11 = 0u;
-    l8 = 3u;
+    l8 = 0u;
+    l16 = 3u;
 L7:;
     l3 = 0ull;
-    l19 = 0ull;
-    l20 = 0u;
+    l5 = 0ull;
+    l22 = 0u;
     l15 = 0ull;
-    l21 = 1u;
+    l20 = 1u;
 L6:;
     l10 = 0ull;
 L5:;
     l1 = 0ull;
     l2 = 0u;
 L4:;
-    l16 = (uint32_t)(l1 >> 32);
-    l7 = (uint32_t)(l3 >> 32);
-    l25 = (uint32_t)l1;
-    l24 = (uint32_t)l3;
-    l9 = 0ull;
+    l17 = (uint32_t)(l1 >> 32);
+    l21 = (uint32_t)(l3 >> 32);
+    l23 = (uint32_t)l1;
+    l7 = (uint32_t)l3;
+    l19 = 0ull;
     l1 = 0ull;
 L3:;
     l3 = 0ull;
-    l5 = 0ull;
+    l13 = 0ull;
 L2:;
-    store8(l0, l17);
-    store64(l0 + 80ull, l5);
+    store8(l0, l11);
+    store64(l0 + 80ull, l13);
     store64(l0 + 56ull, l1);
     store64(l0 + 48ull, l15);
     store64(l0 + 24ull, l18);
-    store64(l0 + 8ull, l9);
-    store8(l0 + 3ull, l8);
-    store8(l0 + 2ull, l21);
+    store64(l0 + 8ull, l19);
+    store8(l0 + 3ull, l16);
+    store8(l0 + 2ull, l20);
     store8(l0 + 1ull, 0u);
-    store64(l0 + 16ull, (l19 << 32) | (l10 & 0xffffffffull));
+    store64(l0 + 16ull, (l5 << 32) | (l10 & 0xffffffffull));
     store64(l0 + 72ull, (l3 << 8) | (((uint64_t)l2) & 255ull));
-    store64(l0 + 64ull, (((uint64_t)l16) << 32) | ((uint64_t)l25));
-    store64(l0 + 40ull, (((uint64_t)l20) << 32) | ((uint64_t)l11));
-    store64(l0 + 32ull, (((uint64_t)l7) << 32) | ((uint64_t)l24));
+    store64(l0 + 64ull, (((uint64_t)l17) << 32) | ((uint64_t)l23));
+    store64(l0 + 40ull, (((uint64_t)l22) << 32) | ((uint64_t)l8));
+    store64(l0 + 32ull, (((uint64_t)l21) << 32) | ((uint64_t)l7));
 L1:;
 }
 
@@ -4873,7 +4926,7 @@ L4:;
     goto L1;
     TRAP();
 L2:;
-    l2 = load64(DATA(208) + ((((uint64_t)l13) & 255ull) << 3));
+    l2 = load64(DATA(224) + ((((uint64_t)l13) & 255ull) << 3));
 L1:;
     return l2;
 }
@@ -4981,7 +5034,7 @@ L3:;
     l2 = 0xffffffffffffffe1ull;
     goto L1;
 L2:;
-    l2 = load64(DATA(208) + ((((uint64_t)l10) & 255ull) << 3));
+    l2 = load64(DATA(224) + ((((uint64_t)l10) & 255ull) << 3));
 L1:;
     return l2;
 }
@@ -5089,7 +5142,7 @@ L3:;
     l2 = 0xffffffffffffffe1ull;
     goto L1;
 L2:;
-    l2 = load64(DATA(208) + ((((uint64_t)l10) & 255ull) << 3));
+    l2 = load64(DATA(224) + ((((uint64_t)l10) & 255ull) << 3));
 L1:;
     return l2;
 }
@@ -6249,7 +6302,7 @@ L3:;
     l0 = 0xffffffffffffffe1ull;
     goto L1;
 L2:;
-    l0 = load64(DATA(208) + (((uint64_t)l7) << 3));
+    l0 = load64(DATA(224) + (((uint64_t)l7) << 3));
 L1:;
     return l0;
 }
@@ -6544,7 +6597,7 @@ L5:;
 L3:;
     TRAP();
 L2:;
-    l0 = load64(DATA(208) + (((uint64_t)l12) << 3));
+    l0 = load64(DATA(224) + (((uint64_t)l12) << 3));
 L1:;
     return l0;
 }
@@ -7110,8 +7163,686 @@ L1:;
     return l6;
 }
 
+/* rattle::export hound_follower_next */
+static uint32_t f72_hound_follower_next(uint64_t sp, uint64_t l0) {
+    uint32_t l4 = 0, l5 = 0, l6 = 0, l7 = 0, l8 = 0, l9 = 0, l10 = 0, l11 = 0, l12 = 0, l13 = 0, l14 = 0, l15 = 0, l16 = 0, l17 = 0, l18 = 0, l19 = 0, l21 = 0, l23 = 0, l24 = 0, t1, t2, t3, t4, t5;
+    uint64_t l1 = 0, l2 = 0, l3 = 0, l20 = 0, l22 = 0, l25 = 0, l26 = 0;
+    l1 = sp - 160ull;
+    sp = l1;
+    l2 = load64(l0 + 88);
+    l3 = l2 >> 32;
+    l4 = (uint32_t)l3;
+    l5 = load16(l0 + 74);
+    l6 = load16(l0 + 72);
+    l7 = load16(l0 + 70);
+    l8 = load16(l0 + 68);
+    l9 = load32(l0 + 64);
+    if (l2 > 0x3ffffffffull) goto L28;
+    if ((l6 & 65535u) != 0) goto L29;
+    l6 = ((l7 & 65528u) >> 3) + (uint32_t)((l7 & 7u) != 0u);
+L29:;
+    l10 = load32(l0 + 96);
+    l11 = 1u;
+    if ((l8 & 65535u) == 0) goto L30;
+    l12 = 0u;
+    l13 = 0u;
+    l14 = 0u;
+    l15 = 0u;
+    l16 = 0u;
+    l17 = 0u;
+    l18 = l6 & 65535u;
+    if (l18 == 0) goto L26;
+    if ((((l8 & 65535u) * l18) >> 16) == 0) goto L27;
+L30:;
+    l12 = 0u;
+    l13 = 0u;
+    l14 = 0u;
+    l15 = 0u;
+    l16 = 0u;
+    l17 = 0u;
+    goto L26;
+L28:;
+    l17 = l6;
+    if ((l6 & 65535u) != 0) goto L31;
+    l17 = ((l7 & 65528u) >> 3) + (uint32_t)((l7 & 7u) != 0u);
+L31:;
+    l19 = load32(l0 + 84);
+    l20 = load64(l0 + 56);
+    l11 = 1u;
+    l15 = 0u;
+    l2 = 0ull;
+    if ((l8 & 65535u) == 0) goto L24;
+    l14 = l17 & 65535u;
+    if (l14 == 0) goto L24;
+    l16 = 0u;
+    if ((((l8 & 65535u) * l14) >> 16) != 0) goto L25;
+    if ((l20 - 4294967316ull) < 0xffffffff00000000ull) goto L25;
+    l2 = (uint64_t)load32(l0 + 80);
+    l14 = l5 & 65535u;
+    l15 = (uint32_t)(l14 > 1u);
+    l18 = 3u;
+    l5 = 1u;
+    l11 = 0u;
+    l10 = 0u;
+    switch (l4 - 5u) {
+    case 0: goto L36;
+    case 1: goto L34;
+    case 2: goto L35;
+    case 3: goto L32;
+    default: goto L33;
+    }
+L36:;
+    if (l19 >= 0x1000000u) goto L33;
+    l18 = 0u;
+    l10 = l19;
+    goto L32;
+L35:;
+    if (l19 >= 256u) goto L33;
+    l18 = 2u;
+    l10 = l19;
+    goto L32;
+L34:;
+    l18 = 1u;
+    l10 = l19;
+    l5 = 1u;
+    if (l19 < 0x10000u) goto L32;
+L33:;
+    l18 = 0u;
+    l10 = 0u;
+    l5 = 0u;
+L32:;
+    l21 = load32(l0 + 76);
+    l15 = l15 != 0 ? 0u : l7;
+    l16 = (uint32_t)(l14 == 0);
+    l22 = l2 << 32;
+    l13 = l8;
+    l2 = l20;
+    goto L22;
+L27:;
+    l17 = l5 & 65535u;
+    l15 = l17 > 1u ? 0u : l7;
+    l16 = (uint32_t)(l17 == 0);
+    l12 = 1u;
+    l13 = l8;
+    l14 = l9;
+    l17 = l6;
+L26:;
+    l21 = l3 == 3ull ? l10 : 0u;
+    l3 = 12ull;
+    l22 = 0ull;
+    l18 = l4;
+    l5 = l4;
+    switch (l4) {
+    case 1: goto L40;
+    case 2: goto L39;
+    case 3: goto L38;
+    default: goto L21;
+    }
+L40:;
+    l3 = 8ull;
+    goto L37;
+L39:;
+    l3 = 9ull;
+    goto L37;
+L38:;
+    l3 = (uint64_t)(l10 < 40u ? l10 : 40u);
+L37:;
+    l4 = 0u;
+    l18 = 0u;
+    l5 = 0u;
+    goto L21;
+L25:;
+    l9 = 0u;
+    l15 = 0u;
+    goto L23;
+L24:;
+    l9 = 0u;
+    l16 = 0u;
+L23:;
+    l13 = 0u;
+    l17 = 0u;
+    l21 = 0u;
+    l22 = 0ull;
+    l5 = 0u;
+    l18 = 0u;
+    l10 = 0u;
+L22:;
+    if ((l6 & 65535u) != 0) goto L41;
+    l6 = ((l7 & 65528u) >> 3) + (uint32_t)((l7 & 7u) != 0u);
+L41:;
+    l3 = 12ull;
+    l12 = 0u;
+    if ((l8 & 65535u) == 0) goto L42;
+    l6 = l6 & 65535u;
+    if (l6 == 0) goto L42;
+    if ((((l8 & 65535u) * l6) >> 16) != 0) goto L42;
+    if ((l20 - 4294967316ull) < 0xffffffff00000000ull) goto L42;
+    l6 = l4 - 5u;
+    l3 = 1ull;
+    l4 = l10;
+    l14 = l9;
+    switch (l6) {
+    case 0: goto L46;
+    case 1: goto L45;
+    case 2: goto L44;
+    case 3: goto L21;
+    default: goto L43;
+    }
+L46:;
+    if (l19 < 0x1000000u) goto L42;
+    goto L43;
+L45:;
+    if (l19 < 0x10000u) goto L42;
+    goto L43;
+L44:;
+    if (l19 < 256u) goto L42;
+L43:;
+    l3 = 4ull;
+L42:;
+    l4 = l10;
+    l14 = l9;
+L21:;
+    l6 = 0u;
+    l7 = (uint32_t)(l2 >> 32);
+    l8 = load16(l0 + 14);
+    switch (load16(l0 + 12) != 0 ? (l8 == 1u ? 1u : (l8 == 2u ? 2u : 0u)) : 0u) {
+    case 1: goto L51;
+    case 2: goto L52;
+    default: goto L53;
+    }
+L53:;
+    l20 = l22 | ((uint64_t)l21);
+    if (l11 == 0) goto L48;
+    l18 = 12u;
+    l3 = 0ull;
+    switch ((uint32_t)(((uint64_t)l7) & 255ull)) {
+    case 1: goto L50;
+    case 2: goto L55;
+    case 3: goto L54;
+    default: goto L19;
+    }
+L55:;
+    l3 = (l2 & 0xffffffffull) + 11ull;
+    l18 = 9u;
+    goto L19;
+L54:;
+    l18 = l21 < 40u ? l21 : 40u;
+    l3 = (l2 & 0xffffffffull) + 20ull;
+    goto L19;
+L52:;
+    if (l11 == 0) goto L56;
+    l23 = 0xfffffff6u;
+    l19 = 3u;
+    l24 = 0u;
+    goto L5;
+L56:;
+    l20 = l22 | ((uint64_t)l21);
+    l3 = 0ull;
+    l19 = 3u;
+    l5 = 0u;
+    l18 = 0u;
+    l4 = 0u;
+    l6 = 0u;
+    l7 = 0u;
+    l8 = 0u;
+    goto L11;
+L51:;
+    l25 = l0 + 16ull;
+    l6 = load32(l0 + 8ull);
+    l20 = (uint64_t)(l6 < 40u ? l6 : 40u);
+    l26 = l3 < l20 ? l3 : l20;
+    if (l11 == 0) goto L57;
+    l4 = (uint32_t)l2;
+    switch ((uint32_t)(((uint64_t)l7) & 255ull)) {
+    case 1: goto L62;
+    case 2: goto L61;
+    case 3: goto L60;
+    default: goto L63;
+    }
+L63:;
+    l24 = 0u;
+    FILL(l1 + 40ull, 0u, 104ull);
+    store64(l1 + 152, l26);
+    store64(l1 + 144, l25);
+    f4_read_riff_header(sp, l1 + 40ull, l1 + 144ull);
+    l6 = load8(l1 + 40);
+    if (l6 != 0) goto L65;
+    l22 = 0x100000000ull;
+    l4 = 0u;
+    goto L64;
+L65:;
+    l17 = (uint32_t)(load8(l1 + 48) == 1u);
+    l4 = l17 != 0 ? load8(l1 + 50) : 0u;
+    l24 = l17 != 0 ? load8(l1 + 49) : 0u;
+    l22 = 0ull;
+L64:;
+    if (l6 != 0) goto L58;
+    l16 = 0u;
+    l15 = 0u;
+    l14 = 0u;
+    l13 = 0u;
+    l17 = 0u;
+    l12 = 0u;
+    l6 = 0u;
+    goto L59;
+L62:;
+    l23 = 0xfffffff4u;
+    if (l4 > 0xfffffff7u) goto L7;
+    if (l26 < 8ull) goto L9;
+    l7 = load8(l0 + 22ull);
+    l11 = load8(l0 + 21ull);
+    l9 = load8(l0 + 23ull);
+    l6 = load8(l0 + 20ull);
+    l18 = load8(l0 + 19ull);
+    l5 = load8(l0 + 17ull);
+    l8 = load8(l0 + 16ull);
+    l21 = load8(l0 + 18ull);
+    if (l21 != 116u) goto L67;
+    if ((l8 & 255u) != 100u) goto L67;
+    if ((l5 & 255u) != 97u) goto L67;
+    if ((l18 & 255u) != 97u) goto L67;
+    t1 = f5_groups_equal(l25, 4ull, DATA(8));
+    if (t1 == 0) goto L67;
+    if (l12 != 0) goto L66;
+    goto L10;
+L67:;
+    l7 = (((l11 << 8) | (l7 << 16)) | (l9 << 24)) | l6;
+    l20 = (uint64_t)l7;
+    l4 = l4 + 8u;
+    if (((l20 + ((uint64_t)l4)) + (l20 & 1ull)) > 0xffffffffull) goto L7;
+    if (l21 != 116u) goto L68;
+    if ((l8 & 255u) != 102u) goto L68;
+    if ((l5 & 255u) != 109u) goto L68;
+    if ((l18 & 255u) != 32u) goto L68;
+    t2 = f5_groups_equal(l25, 4ull, DATA(12));
+    if (t2 != 0) goto L47;
+L68:;
+    l6 = l7 + (l6 & 1u);
+    l22 = l6 != 0 ? 0x200000000ull : 0x100000000ull;
+    l6 = l6 + l4;
+    goto L59;
+L66:;
+    l2 = (l2 & 0xffffffffull) + 20ull;
+    goto L12;
+L61:;
+    l7 = 2u;
+    l23 = 0xfffffff6u;
+    if (l26 == 0) goto L8;
+    if (l4 > 0xfffffff7u) goto L13;
+    if (l26 < 9ull) goto L8;
+    l3 = l0 + 17ull;
+    l7 = load8(l0 + 23ull);
+    l11 = load8(l0 + 22ull);
+    l9 = load8(l0 + 24ull);
+    l6 = load8(l0 + 21ull);
+    l18 = load8(l0 + 20ull);
+    l5 = load8(l0 + 18ull);
+    l8 = load8(l0 + 17ull);
+    l21 = load8(l0 + 19ull);
+    if (l21 != 116u) goto L69;
+    if ((l8 & 255u) != 100u) goto L69;
+    if ((l5 & 255u) != 97u) goto L69;
+    if ((l18 & 255u) != 97u) goto L69;
+    t3 = f5_groups_equal(l3, 4ull, DATA(8));
+    if (t3 == 0) goto L69;
+    if (l12 == 0) goto L10;
+    l2 = (l2 & 0xffffffffull) + 20ull;
+    goto L12;
+L69:;
+    l7 = (((l11 << 8) | (l7 << 16)) | (l9 << 24)) | l6;
+    l20 = (uint64_t)l7;
+    l4 = l4 + 8u;
+    if (((l20 + ((uint64_t)l4)) + (l20 & 1ull)) > 0xffffffffull) goto L13;
+    if (l21 != 116u) goto L70;
+    if ((l8 & 255u) != 102u) goto L70;
+    if ((l5 & 255u) != 109u) goto L70;
+    if ((l18 & 255u) != 32u) goto L70;
+    t4 = f5_groups_equal(l3, 4ull, DATA(12));
+    if (t4 != 0) goto L47;
+L70:;
+    l6 = l7 + (l6 & 1u);
+    l22 = l6 != 0 ? 0x200000000ull : 0x100000000ull;
+    l6 = l6 + l4;
+    goto L59;
+L60:;
+    l16 = 0u;
+    FILL(l1 + 40ull, 0u, 104ull);
+    l22 = 0ull;
+    l3 = (uint64_t)l21;
+    if ((((l3 + (l2 & 0xffffffffull)) + (l3 & 1ull)) + 8ull) <= 0xffffffffull) goto L73;
+    l4 = 2u;
+    l8 = 1u;
+    l15 = 0u;
+    l14 = 0u;
+    l13 = 0u;
+    l17 = 0u;
+    l24 = 1u;
+    goto L72;
+L73:;
+    store64(l1 + 152, l26);
+    store64(l1 + 144, l25);
+    f6_read_fmt_chunk(sp, l1 + 40ull, l1 + 144ull, l21);
+    l8 = load8(l1 + 40);
+    if (l8 != 0) goto L74;
+    l12 = 1u;
+    l6 = (l21 & 1u) + l21;
+    l22 = (l21 < 40u ? l21 : 40u) == l6 ? 0x100000000ull : 0x200000000ull;
+    l6 = (l4 + l6) + 8u;
+    l8 = 0u;
+    l16 = load8(l1 + 54);
+    l15 = load16(l1 + 52);
+    l14 = load32(l1 + 48);
+    l17 = load16(l1 + 56);
+    l13 = load16(l1 + 44);
+    l24 = 0u;
+    l4 = 0u;
+    goto L71;
+L74:;
+    l16 = 0u;
+    l6 = (uint32_t)(load8(l1 + 48) == 1u);
+    l4 = l6 != 0 ? load8(l1 + 50) : 0u;
+    l24 = l6 != 0 ? load8(l1 + 49) : 0u;
+    l15 = 0u;
+    l14 = 0u;
+    l13 = 0u;
+    l17 = 0u;
+L72:;
+    l12 = 0u;
+    l6 = 0u;
+L71:;
+    if (l8 != 0) goto L58;
+L59:;
+    l26 = (uint64_t)l6;
+    l2 = (l22 & 0x300000000ull) | l26;
+    l18 = 12u;
+    l20 = 0ull;
+    l3 = 0ull;
+    switch ((uint32_t)(l22 >> 32)) {
+    case 1: goto L76;
+    case 2: goto L75;
+    default: goto L19;
+    }
+L76:;
+    l3 = l26 + 12ull;
+    goto L49;
+L75:;
+    l3 = l26 + 11ull;
+    l18 = 9u;
+    goto L19;
+L58:;
+    if ((l24 & 255u) == 0) goto L9;
+    l23 = 0xfffffff6u - (l4 & 255u);
+    goto L6;
+L57:;
+    l20 = l22 | ((uint64_t)l21);
+    if ((l5 & 255u) != 0) goto L77;
+    l3 = 0ull;
+    if (l26 < 4ull) goto L16;
+    if (load32(l25) != ((uint32_t)(l22 >> 32))) goto L78;
+    l7 = 2u;
+    l5 = 0u;
+    l6 = 1u;
+    goto L17;
+L78:;
+    l3 = l2 - 1ull;
+    l4 = 0u;
+    l5 = 1u;
+    l18 = 3u;
+    l6 = 1u;
+    l19 = 0u;
+    goto L14;
+L77:;
+    l3 = 0ull;
+    if (l26 == 0) goto L16;
+    l4 = (l4 << 8) | load8(l25);
+    if (l18 != 0) goto L79;
+    l19 = 2u;
+    if (l2 > 0x100000007ull) goto L18;
+    l22 = (uint64_t)l4;
+    if ((((l2 + l22) + (l22 & 1ull)) - 8ull) > 0xffffffffull) goto L18;
+    l6 = (l13 & 65535u) * (l17 & 65535u);
+    if (l6 == 0) goto L20;
+    l4 = l4 - rem32(l4, l6);
+    l20 = (l22 << 32) | ((uint64_t)(l21 > l4 ? l21 : l4));
+    l6 = 1u;
+    l7 = l4 > l21 ? 1u : 2u;
+    l5 = 0u;
+    goto L17;
+L79:;
+    l3 = (((uint64_t)l18) + l2) - 5ull;
+    l19 = 0u;
+    l5 = 1u;
+    l18 = l18 - 1u;
+    l6 = 1u;
+    goto L14;
+L50:;
+    l3 = (l2 & 0xffffffffull) + 12ull;
+L49:;
+    l18 = 8u;
+    goto L19;
+L48:;
+    l8 = l5 & 255u;
+    l3 = (l8 != 0 ? (((uint64_t)l18) - 4ull) : 0xfffffffffffffffcull) + l2;
+    l6 = 1u;
+    l8 = l8 != 0 ? 1u : 4u;
+    l19 = 0u;
+    l7 = 0u;
+    goto L11;
+L47:;
+    l18 = l20 < 40ull ? ((uint32_t)l20) : 40u;
+    l2 = l2 & 0xffffffffull;
+    l3 = l2 + 20ull;
+    l2 = l2 | 0x300000000ull;
+    goto L19;
+L20:;
+    TRAP();
+L19:;
+    l22 = l2 >> 32;
+    l5 = (uint32_t)l22;
+    l8 = l5;
+    switch ((uint32_t)l22) {
+    case 1: goto L83;
+    case 2: goto L82;
+    case 3: goto L81;
+    default: goto L80;
+    }
+L83:;
+    l8 = 0u;
+    l5 = 1u;
+    goto L80;
+L82:;
+    l8 = 0u;
+    l5 = 2u;
+    goto L80;
+L81:;
+    l8 = (uint32_t)l20;
+    l5 = 3u;
+L80:;
+    l11 = (uint32_t)l2;
+    l23 = 0xfffffff6u;
+    if (l12 != 0) goto L84;
+    l19 = 0u;
+    l6 = 1u;
+    l24 = 0u;
+    l7 = 0u;
+    l4 = 1u;
+    goto L3;
+L84:;
+    l9 = (uint32_t)((l16 & 255u) == 0);
+    l4 = 1u;
+    l19 = 0u;
+    l6 = 1u;
+    l24 = 0u;
+    l7 = 0u;
+    goto L2;
+L18:;
+    l5 = 0u;
+    goto L15;
+L17:;
+    l18 = 0u;
+    l4 = 0u;
+    l19 = 0u;
+    l8 = l5;
+    goto L11;
+L16:;
+    l5 = 0u;
+    l19 = 1u;
+L15:;
+    l18 = 0u;
+    l4 = 0u;
+    l6 = 0u;
+L14:;
+    l7 = 0u;
+    l8 = l5;
+    goto L11;
+L13:;
+    l24 = 1u;
+    l6 = 0u;
+    l19 = 0u;
+    l23 = 0xfffffff4u;
+    goto L5;
+L12:;
+    l6 = 1u;
+    l5 = 0u;
+    l20 = 0ull;
+    l18 = 0u;
+    l4 = 0u;
+    l19 = 0u;
+    l7 = 1u;
+    l3 = 0ull;
+    l8 = 0u;
+L11:;
+    l24 = 0u;
+    store32(l1 + 72, 0u);
+    store64(l1 + 64, 0ull);
+    store64(l1 + 56, 0ull);
+    store64(l1 + 48, 0ull);
+    store64(l1 + 40, 0ull);
+    t5 = l18 + 5u;
+    l18 = l5 & 255u;
+    l5 = l18 != 0 ? t5 : 4u;
+    l12 = l18 != 0 ? l4 : 0u;
+    l4 = l6 & (uint32_t)((l7 & 255u) == 0);
+    l18 = l4 != 0 ? l8 : 0u;
+    l3 = l4 != 0 ? l3 : 0ull;
+    l21 = (uint32_t)(l20 >> 32);
+    l9 = (uint32_t)(l16 == 0);
+    l16 = (uint32_t)l20;
+    l23 = 0xfffffff6u;
+    l11 = 0u;
+    l8 = 0u;
+    goto L1;
+L10:;
+    l23 = 0xfffffff3u;
+    goto L7;
+L9:;
+    l7 = 2u;
+    l23 = 0xfffffff6u;
+L8:;
+    l19 = 0u;
+    l6 = 1u;
+    l24 = 0u;
+    goto L4;
+L7:;
+    l24 = 1u;
+L6:;
+    l6 = 0u;
+    l19 = 0u;
+L5:;
+    l7 = 0u;
+L4:;
+    l8 = 0u;
+    l3 = 0ull;
+    l5 = 0u;
+    l11 = 0u;
+    l18 = 0u;
+    l4 = 0u;
+L3:;
+    l14 = 0u;
+    l13 = 0u;
+    l15 = 0u;
+    l17 = 0u;
+    l9 = 0u;
+L2:;
+    l16 = 0u;
+    store32(l1 + 72, 0u);
+    l2 = 0ull;
+    store64(l1 + 64, 0ull);
+    store64(l1 + 56, 0ull);
+    store64(l1 + 48, 0ull);
+    store64(l1 + 40, 0ull);
+    l21 = 0u;
+    l12 = 0u;
+L1:;
+    l10 = load32(l1 + 72);
+    store32(l1 + 32, l10);
+    l20 = load64(l1 + 64);
+    store64(l1 + 24, l20);
+    l22 = load64(l1 + 56);
+    store64(l1 + 16, l22);
+    l26 = load64(l1 + 48);
+    store64(l1 + 8, l26);
+    l25 = load64(l1 + 40);
+    store64(l1, l25);
+    store32(l0 + 16ull, 0u);
+    store16(l0 + 14, 0u);
+    store16(l0 + 12, l4);
+    store32(l0 + 8ull, l18);
+    store64(l0, l3);
+    l3 = l0 + 20ull;
+    store64(l3, l25);
+    store64(l3 + 8, l26);
+    store64(l3 + 16, l22);
+    store64(l3 + 24, l20);
+    store32(l3 + 32, l10);
+    store32(l0 + 100, 0u);
+    store32(l0 + 96, l8);
+    store32(l0 + 92, l5);
+    store32(l0 + 88, l11);
+    store32(l0 + 84, l12);
+    store32(l0 + 80, l21);
+    store32(l0 + 76, l16);
+    store16(l0 + 74, l9);
+    store16(l0 + 72, l17);
+    store16(l0 + 70, l15);
+    store16(l0 + 68, l13);
+    store32(l0 + 64, l14);
+    store64(l0 + 56, l2);
+    if (l6 != 0) goto L86;
+    l4 = 0xfffffffau;
+    switch (l19) {
+    case 1: goto L85;
+    case 2: goto L88;
+    case 3: goto L87;
+    default: goto L89;
+    }
+L89:;
+    l4 = 0xffffffffu;
+    switch ((uint32_t)(((uint64_t)l24) & 255ull)) {
+    case 1: goto L90;
+    case 2: goto L91;
+    default: goto L85;
+    }
+L91:;
+    l4 = 0xfffffffeu;
+    goto L85;
+L90:;
+    l4 = l23;
+    goto L85;
+L88:;
+    l4 = 0xfffffff9u;
+    goto L85;
+L87:;
+    l4 = 0xffffffe1u;
+    goto L85;
+L86:;
+    l4 = load32(DATA(144) + (((uint64_t)l7) << 2));
+L85:;
+    return l4;
+}
+
 /* rattle::export hound_from_f32 */
-static uint64_t f72_hound_from_f32(uint64_t sp, uint64_t l0, uint64_t l1, uint64_t l2, uint64_t l3, uint64_t l4, uint64_t l5) {
+static uint64_t f74_hound_from_f32(uint64_t sp, uint64_t l0, uint64_t l1, uint64_t l2, uint64_t l3, uint64_t l4, uint64_t l5) {
     uint32_t l8 = 0, l9 = 0, l10 = 0, l11 = 0, t1, t2, t3, t4, t5, t6, t7, t8, t9, t10;
     uint64_t l6 = 0, l7 = 0, l12 = 0;
     float l17 = 0, l18 = 0;
@@ -7348,7 +8079,7 @@ L3:;
 }
 
 /* rattle::export hound_from_f64 */
-static uint64_t f74_hound_from_f64(uint64_t sp, uint64_t l0, uint64_t l1, uint64_t l2, uint64_t l3, uint64_t l4, uint64_t l5) {
+static uint64_t f76_hound_from_f64(uint64_t sp, uint64_t l0, uint64_t l1, uint64_t l2, uint64_t l3, uint64_t l4, uint64_t l5) {
     uint32_t l8 = 0, l9 = 0, l10 = 0, l11 = 0, t1, t2, t3, t4, t5;
     uint64_t l6 = 0, l7 = 0, l12 = 0;
     double l13 = 0, l14 = 0, l15 = 0, l16 = 0, l17 = 0;
@@ -7534,7 +8265,7 @@ L3:;
 }
 
 /* rattle::export hound_guess_data */
-static uint64_t f76_hound_guess_data(uint64_t l0, uint64_t l1) {
+static uint64_t f78_hound_guess_data(uint64_t l0, uint64_t l1) {
     uint64_t l2 = 0, l3 = 0;
     l2 = 0xfffffffffffffff4ull;
     l3 = l1 - 7ull;
@@ -7555,7 +8286,7 @@ L1:;
 }
 
 /* rattle::export hound_header */
-static uint64_t f78_hound_header(uint64_t sp, uint64_t l0, uint64_t l1, uint64_t l2, uint64_t l3) {
+static uint64_t f80_hound_header(uint64_t sp, uint64_t l0, uint64_t l1, uint64_t l2, uint64_t l3) {
     uint32_t l6 = 0, l7 = 0, l8 = 0, l9 = 0, l10 = 0, l11 = 0;
     uint64_t l4 = 0, l5 = 0, l12 = 0;
     l4 = sp - 96ull;
@@ -7626,7 +8357,7 @@ L6:;
 }
 
 /* rattle::export hound_info */
-static uint32_t f80_hound_info(uint64_t sp, uint64_t l0, uint64_t l1, uint64_t l2) {
+static uint32_t f82_hound_info(uint64_t sp, uint64_t l0, uint64_t l1, uint64_t l2) {
     uint32_t l4 = 0;
     uint64_t l3 = 0;
     l3 = sp - 48ull;
@@ -7666,7 +8397,7 @@ L1:;
 }
 
 /* rattle::export hound_kind */
-static uint32_t f82_hound_kind(uint64_t l0, uint64_t l1) {
+static uint32_t f84_hound_kind(uint64_t l0, uint64_t l1) {
     uint32_t l2 = 0, l3 = 0, l4 = 0, l5 = 0, l6 = 0, l7 = 0;
     uint64_t l8 = 0, l9 = 0, l10 = 0;
     l2 = 0x10000u;
@@ -7756,7 +8487,7 @@ L2:;
 }
 
 /* rattle::export hound_read_f32 */
-static uint64_t f84_hound_read_f32(uint64_t sp, uint64_t l0, uint64_t l1, uint64_t l2, uint64_t l3, uint64_t l4) {
+static uint64_t f86_hound_read_f32(uint64_t sp, uint64_t l0, uint64_t l1, uint64_t l2, uint64_t l3, uint64_t l4) {
     uint32_t l7 = 0, l8 = 0;
     uint64_t l5 = 0, l6 = 0, l9 = 0, l10 = 0, t1;
     l5 = sp - 48ull;
@@ -7814,7 +8545,7 @@ L1:;
 }
 
 /* rattle::export hound_read_i16 */
-static uint64_t f86_hound_read_i16(uint64_t sp, uint64_t l0, uint64_t l1, uint64_t l2, uint64_t l3, uint64_t l4) {
+static uint64_t f88_hound_read_i16(uint64_t sp, uint64_t l0, uint64_t l1, uint64_t l2, uint64_t l3, uint64_t l4) {
     uint32_t l7 = 0, l8 = 0, l9 = 0;
     uint64_t l5 = 0, l6 = 0, l10 = 0, l11 = 0, t1;
     l5 = sp - 48ull;
@@ -7876,7 +8607,7 @@ L1:;
 }
 
 /* rattle::export hound_read_i32 */
-static uint64_t f88_hound_read_i32(uint64_t sp, uint64_t l0, uint64_t l1, uint64_t l2, uint64_t l3, uint64_t l4) {
+static uint64_t f90_hound_read_i32(uint64_t sp, uint64_t l0, uint64_t l1, uint64_t l2, uint64_t l3, uint64_t l4) {
     uint32_t l7 = 0, l8 = 0, l9 = 0, l12 = 0;
     uint64_t l5 = 0, l6 = 0, l10 = 0, l11 = 0, t1;
     l5 = sp - 48ull;
@@ -7942,7 +8673,7 @@ L1:;
 }
 
 /* rattle::export hound_recorder_begin */
-static uint32_t f90_hound_recorder_begin(uint64_t l0, uint64_t l1) {
+static uint32_t f92_hound_recorder_begin(uint64_t l0, uint64_t l1) {
     uint32_t l2 = 0, l3 = 0, l4 = 0, l5 = 0, l6 = 0, l7 = 0;
     l2 = load16(l0 + 10);
     l3 = load16(l0 + 6);
@@ -7993,7 +8724,7 @@ L6:;
 }
 
 /* rattle::export hound_recorder_checkpoint */
-static void f92_hound_recorder_checkpoint(uint64_t sp, uint64_t l0) {
+static void f94_hound_recorder_checkpoint(uint64_t sp, uint64_t l0) {
     uint32_t l2 = 0, l3 = 0, l4 = 0, l5 = 0, l6 = 0, l7 = 0, l9 = 0, l10 = 0;
     uint64_t l1 = 0, l8 = 0;
     l1 = sp - 48ull;
@@ -8079,7 +8810,7 @@ L1:;
 }
 
 /* rattle::export hound_recorder_frames_left */
-static uint64_t f94_hound_recorder_frames_left(uint64_t l0) {
+static uint64_t f96_hound_recorder_frames_left(uint64_t l0) {
     uint64_t l1 = 0, l2 = 0, l3 = 0;
     l1 = 0ull;
     l2 = load64(l0 + 56ull);
@@ -8095,7 +8826,7 @@ L2:;
 }
 
 /* rattle::export hound_recorder_next */
-static uint32_t f96_hound_recorder_next(uint64_t sp, uint64_t l0) {
+static uint32_t f98_hound_recorder_next(uint64_t sp, uint64_t l0) {
     uint32_t l2 = 0, l3 = 0, l4 = 0, l5 = 0, l6 = 0, l7 = 0, l9 = 0, l10 = 0, l12 = 0, l13 = 0, l15 = 0, l16 = 0, l17 = 0, l18 = 0, l19 = 0, l20 = 0;
     uint64_t l1 = 0, l8 = 0, l11 = 0, l14 = 0, l21 = 0, l22 = 0, l23 = 0;
     l1 = sp - 128ull;
@@ -8400,13 +9131,13 @@ L22:;
     l9 = (uint32_t)(l7 == 1u);
     goto L31;
 L32:;
-    l9 = load32(DATA(144) + ((((uint64_t)l13) & 255ull) << 2));
+    l9 = load32(DATA(156) + ((((uint64_t)l13) & 255ull) << 2));
 L31:;
     return l9;
 }
 
 /* rattle::export hound_recorder_resume */
-static uint32_t f98_hound_recorder_resume(uint64_t l0, uint32_t l1, uint64_t l2) {
+static uint32_t f100_hound_recorder_resume(uint64_t l0, uint32_t l1, uint64_t l2) {
     uint32_t l3 = 0, l4 = 0, l5 = 0, l9 = 0, l11 = 0, l13 = 0, l14 = 0;
     uint64_t l6 = 0, l7 = 0, l8 = 0, l10 = 0, l12 = 0;
     l3 = load16(l0 + 6);
@@ -8508,7 +9239,7 @@ L1:;
 }
 
 /* rattle::export hound_recorder_write */
-static uint32_t f100_hound_recorder_write(uint64_t sp, uint64_t l0, uint64_t l1) {
+static uint32_t f102_hound_recorder_write(uint64_t sp, uint64_t l0, uint64_t l1) {
     uint32_t l3 = 0, l4 = 0, l5 = 0, l6 = 0, l7 = 0, l8 = 0, l10 = 0, l11 = 0, l13 = 0, l14 = 0;
     uint64_t l2 = 0, l9 = 0, l12 = 0;
     l2 = sp - 48ull;
@@ -8634,13 +9365,13 @@ L1:;
     store32(l0 + 64ull, l6);
     store64(l0 + 56ull, l12);
     if (l8 != 0) goto L14;
-    l4 = load32((l9 << 2) + DATA(176));
+    l4 = load32((l9 << 2) + DATA(188));
 L14:;
     return l4;
 }
 
 /* rattle::export hound_repair */
-static uint64_t f102_hound_repair(uint64_t sp, uint64_t l0, uint64_t l1, uint64_t l2, uint64_t l3) {
+static uint64_t f104_hound_repair(uint64_t sp, uint64_t l0, uint64_t l1, uint64_t l2, uint64_t l3) {
     uint32_t l5 = 0;
     uint64_t l4 = 0;
     l4 = sp - 16ull;
@@ -8702,13 +9433,13 @@ L5:;
     goto L1;
     TRAP();
 L2:;
-    l0 = load64(DATA(208) + (((uint64_t)l5) << 3));
+    l0 = load64(DATA(224) + (((uint64_t)l5) << 3));
 L1:;
     return l0;
 }
 
 /* rattle::export hound_repair_to_end */
-static uint64_t f104_hound_repair_to_end(uint64_t sp, uint64_t l0, uint64_t l1, uint64_t l2, uint64_t l3) {
+static uint64_t f106_hound_repair_to_end(uint64_t sp, uint64_t l0, uint64_t l1, uint64_t l2, uint64_t l3) {
     uint32_t l5 = 0;
     uint64_t l4 = 0;
     l4 = sp - 16ull;
@@ -8770,13 +9501,13 @@ L5:;
     goto L1;
     TRAP();
 L2:;
-    l0 = load64(DATA(208) + (((uint64_t)l5) << 3));
+    l0 = load64(DATA(224) + (((uint64_t)l5) << 3));
 L1:;
     return l0;
 }
 
 /* rattle::export hound_repairer_begin */
-static void f106_hound_repairer_begin(uint64_t l0, uint32_t l1, uint64_t l2) {
+static void f108_hound_repairer_begin(uint64_t l0, uint32_t l1, uint64_t l2) {
     store64(l2 + 48, 0ull);
     store64(l2 + 40, 0ull);
     store64(l2 + 32, 0ull);
@@ -8796,7 +9527,7 @@ static void f106_hound_repairer_begin(uint64_t l0, uint32_t l1, uint64_t l2) {
 }
 
 /* rattle::export hound_repairer_next */
-static uint32_t f108_hound_repairer_next(uint64_t sp, uint64_t l0, uint64_t l1) {
+static uint32_t f110_hound_repairer_next(uint64_t sp, uint64_t l0, uint64_t l1) {
     uint32_t l5 = 0, l6 = 0, l7 = 0, l8 = 0, l9 = 0, l10 = 0, l11 = 0, l12 = 0, l13 = 0, l14 = 0, l16 = 0, l17 = 0, l18 = 0, l19 = 0, l20 = 0, l21 = 0, l22 = 0, l24 = 0, l25 = 0, l26 = 0, l27 = 0, l28 = 0, l29 = 0, l31 = 0, l32 = 0, l33 = 0, l34 = 0, l35 = 0, l36 = 0, l37 = 0, l38 = 0, l39 = 0, l40 = 0, l41 = 0, l42 = 0, l43 = 0, l44 = 0;
     uint64_t l2 = 0, l3 = 0, l4 = 0, l15 = 0, l23 = 0, l30 = 0, l45 = 0, l46 = 0, l47 = 0, l48 = 0, l49 = 0, l50 = 0, l51 = 0;
     l2 = sp - 1216ull;
@@ -9842,7 +10573,7 @@ L1:;
 }
 
 /* rattle::export hound_size */
-static uint64_t f110_hound_size(uint64_t l0, uint64_t l1) {
+static uint64_t f112_hound_size(uint64_t l0, uint64_t l1) {
     uint32_t l2 = 0, l3 = 0, l4 = 0, l5 = 0, l6 = 0;
     uint64_t l7 = 0;
     l2 = load16(l0 + 10);
@@ -9893,7 +10624,7 @@ L6:;
 }
 
 /* rattle::export hound_sizes */
-static uint64_t f112_hound_sizes(uint64_t l0, uint64_t l1, uint64_t l2, uint64_t l3, uint64_t l4) {
+static uint64_t f114_hound_sizes(uint64_t l0, uint64_t l1, uint64_t l2, uint64_t l3, uint64_t l4) {
     uint32_t l5 = 0, l6 = 0, l7 = 0, l8 = 0, l9 = 0;
     l5 = load16(l0 + 10);
     l6 = load16(l0 + 6);
@@ -9944,7 +10675,7 @@ L3:;
 }
 
 /* rattle::export hound_to_f32 */
-static uint64_t f114_hound_to_f32(uint64_t sp, uint64_t l0, uint64_t l1, uint64_t l2, uint64_t l3, uint64_t l4) {
+static uint64_t f116_hound_to_f32(uint64_t sp, uint64_t l0, uint64_t l1, uint64_t l2, uint64_t l3, uint64_t l4) {
     uint32_t l6 = 0, l7 = 0, l8 = 0, l9 = 0, l19 = 0, t2, t3;
     uint64_t l5 = 0, l10 = 0, l12 = 0;
     float l11 = 0, l13 = 0, l14 = 0, l15 = 0, l16 = 0, l17 = 0, l18 = 0, t1;
@@ -10141,7 +10872,7 @@ L1:;
 }
 
 /* rattle::export hound_to_f64 */
-static uint64_t f116_hound_to_f64(uint64_t l0, uint64_t l1, uint64_t l2, uint64_t l3, uint64_t l4) {
+static uint64_t f118_hound_to_f64(uint64_t l0, uint64_t l1, uint64_t l2, uint64_t l3, uint64_t l4) {
     uint32_t l5 = 0, l6 = 0, l7 = 0, l8 = 0;
     uint64_t l9 = 0, l11 = 0, l12 = 0;
     double l10 = 0;
@@ -10318,22 +11049,22 @@ L1:;
 }
 
 /* rattle::export hound_value_16 */
-static uint32_t f118_hound_value_16(uint32_t l0) {
+static uint32_t f120_hound_value_16(uint32_t l0) {
     return extend16(l0);
 }
 
 /* rattle::export hound_value_24 */
-static uint32_t f120_hound_value_24(uint32_t l0) {
+static uint32_t f122_hound_value_24(uint32_t l0) {
     return ((extend16((((l0 >> 8) & 65280u) | ((l0 & 65280u) >> 8)))) << 8) | (l0 & 255u);
 }
 
 /* rattle::export hound_value_8 */
-static uint32_t f124_hound_value_8(uint32_t l0) {
+static uint32_t f126_hound_value_8(uint32_t l0) {
     return extend8(l0) ^ 0xffffff80u;
 }
 
 /* rattle::export hound_walk_next */
-static uint32_t f128_hound_walk_next(uint64_t sp, uint64_t l0, uint64_t l1) {
+static uint32_t f130_hound_walk_next(uint64_t sp, uint64_t l0, uint64_t l1) {
     uint32_t l4 = 0, l5 = 0, l6 = 0, l7 = 0, l8 = 0, l9 = 0, l10 = 0, l11 = 0, l12 = 0, l13 = 0, l14 = 0, l15 = 0, l16 = 0, l17 = 0, l18 = 0, t1, t2, t3, t4;
     uint64_t l2 = 0, l3 = 0, l19 = 0;
     l2 = sp - 128ull;
@@ -10702,7 +11433,7 @@ L1:;
 }
 
 /* rattle::export hound_walk_to_end */
-static uint32_t f130_hound_walk_to_end(uint64_t sp, uint64_t l0, uint64_t l1) {
+static uint32_t f132_hound_walk_to_end(uint64_t sp, uint64_t l0, uint64_t l1) {
     uint32_t l4 = 0, l5 = 0, l6 = 0, l7 = 0, l8 = 0, l9 = 0, l10 = 0, l11 = 0, l12 = 0, l13 = 0, l14 = 0, l15 = 0, l16 = 0, l17 = 0, l18 = 0, l20 = 0, l21 = 0, t1, t2, t3, t4;
     uint64_t l2 = 0, l3 = 0, l19 = 0;
     l2 = sp - 128ull;
@@ -11063,7 +11794,7 @@ L1:;
 }
 
 /* rattle::export hound_whole_frames */
-static uint64_t f132_hound_whole_frames(uint64_t l0, uint64_t l1) {
+static uint64_t f134_hound_whole_frames(uint64_t l0, uint64_t l1) {
     uint32_t l2 = 0, l3 = 0;
     l2 = load16(l0 + 4);
     l3 = load16(l0 + 8);
@@ -11084,7 +11815,7 @@ L1:;
 }
 
 /* rattle::export hound_write_f32 */
-static uint64_t f134_hound_write_f32(uint64_t sp, uint64_t l0, uint64_t l1, uint64_t l2, uint64_t l3, uint64_t l4) {
+static uint64_t f136_hound_write_f32(uint64_t sp, uint64_t l0, uint64_t l1, uint64_t l2, uint64_t l3, uint64_t l4) {
     uint32_t l6 = 0, l7 = 0, l8 = 0, l9 = 0, l10 = 0, l11 = 0, l12 = 0, l13 = 0, t1;
     uint64_t l5 = 0, l14 = 0, l15 = 0, l16 = 0, l17 = 0, l18 = 0, l19 = 0, l20 = 0, l21 = 0;
     l5 = sp - 96ull;
@@ -11181,7 +11912,7 @@ L6:;
 }
 
 /* rattle::export hound_write_i16 */
-static uint64_t f136_hound_write_i16(uint64_t sp, uint64_t l0, uint64_t l1, uint64_t l2, uint64_t l3, uint64_t l4) {
+static uint64_t f138_hound_write_i16(uint64_t sp, uint64_t l0, uint64_t l1, uint64_t l2, uint64_t l3, uint64_t l4) {
     uint32_t l6 = 0, l7 = 0, l8 = 0, l9 = 0, l10 = 0, l11 = 0, l12 = 0, l13 = 0;
     uint64_t l5 = 0, l14 = 0, l15 = 0;
     l5 = sp - 112ull;
@@ -11304,13 +12035,13 @@ L8:;
     goto L1;
     TRAP();
 L2:;
-    l0 = load64(DATA(208) + (((uint64_t)l8) << 3));
+    l0 = load64(DATA(224) + (((uint64_t)l8) << 3));
 L1:;
     return l0;
 }
 
 /* rattle::export hound_write_i32 */
-static uint64_t f138_hound_write_i32(uint64_t sp, uint64_t l0, uint64_t l1, uint64_t l2, uint64_t l3, uint64_t l4) {
+static uint64_t f140_hound_write_i32(uint64_t sp, uint64_t l0, uint64_t l1, uint64_t l2, uint64_t l3, uint64_t l4) {
     uint32_t l6 = 0, l7 = 0, l8 = 0, l9 = 0, l10 = 0, l11 = 0, l12 = 0, l13 = 0;
     uint64_t l5 = 0, l14 = 0, l15 = 0;
     l5 = sp - 112ull;
@@ -11433,7 +12164,7 @@ L8:;
     goto L1;
     TRAP();
 L2:;
-    l0 = load64(DATA(208) + (((uint64_t)l8) << 3));
+    l0 = load64(DATA(224) + (((uint64_t)l8) << 3));
 L1:;
     return l0;
 }
@@ -11444,57 +12175,62 @@ int32_t hound_version(void) {
 
 int32_t hound_info(const uint8_t *file, size_t length, hound_info_t *info) {
     STACK(544);
-    return s32(f80_hound_info(sp, (uint64_t)(uintptr_t)file, length, (uint64_t)(uintptr_t)info));
+    return s32(f82_hound_info(sp, (uint64_t)(uintptr_t)file, length, (uint64_t)(uintptr_t)info));
 }
 
 int32_t hound_walk_next(hound_walk *walk, hound_info_t *info) {
     STACK(416);
-    return s32(f128_hound_walk_next(sp, (uint64_t)(uintptr_t)walk, (uint64_t)(uintptr_t)info));
+    return s32(f130_hound_walk_next(sp, (uint64_t)(uintptr_t)walk, (uint64_t)(uintptr_t)info));
 }
 
 int32_t hound_walk_to_end(hound_walk *walk, hound_info_t *info) {
     STACK(416);
-    return s32(f130_hound_walk_to_end(sp, (uint64_t)(uintptr_t)walk, (uint64_t)(uintptr_t)info));
+    return s32(f132_hound_walk_to_end(sp, (uint64_t)(uintptr_t)walk, (uint64_t)(uintptr_t)info));
 }
 
 int64_t hound_whole_frames(const hound_spec *spec, uint64_t length) {
-    return s64(f132_hound_whole_frames((uint64_t)(uintptr_t)spec, length));
+    return s64(f134_hound_whole_frames((uint64_t)(uintptr_t)spec, length));
 }
 
 int64_t hound_guess_data(const uint8_t *file, size_t length) {
-    return s64(f76_hound_guess_data((uint64_t)(uintptr_t)file, length));
+    return s64(f78_hound_guess_data((uint64_t)(uintptr_t)file, length));
+}
+
+int32_t hound_follower_next(hound_follower *follower) {
+    STACK(448);
+    return s32(f72_hound_follower_next(sp, (uint64_t)(uintptr_t)follower));
 }
 
 int32_t hound_kind(const uint8_t *file, size_t length) {
-    return s32(f82_hound_kind((uint64_t)(uintptr_t)file, length));
+    return s32(f84_hound_kind((uint64_t)(uintptr_t)file, length));
 }
 
 int64_t hound_read_i16(const uint8_t *file, size_t length, uint64_t first, int16_t *out, size_t count) {
     STACK(544);
-    return s64(f86_hound_read_i16(sp, (uint64_t)(uintptr_t)file, length, first, (uint64_t)(uintptr_t)out, count));
+    return s64(f88_hound_read_i16(sp, (uint64_t)(uintptr_t)file, length, first, (uint64_t)(uintptr_t)out, count));
 }
 
 int64_t hound_read_i32(const uint8_t *file, size_t length, uint64_t first, int32_t *out, size_t count) {
     STACK(544);
-    return s64(f88_hound_read_i32(sp, (uint64_t)(uintptr_t)file, length, first, (uint64_t)(uintptr_t)out, count));
+    return s64(f90_hound_read_i32(sp, (uint64_t)(uintptr_t)file, length, first, (uint64_t)(uintptr_t)out, count));
 }
 
 int64_t hound_read_f32(const uint8_t *file, size_t length, uint64_t first, float *out, size_t count) {
     STACK(544);
-    return s64(f84_hound_read_f32(sp, (uint64_t)(uintptr_t)file, length, first, (uint64_t)(uintptr_t)out, count));
+    return s64(f86_hound_read_f32(sp, (uint64_t)(uintptr_t)file, length, first, (uint64_t)(uintptr_t)out, count));
 }
 
 int64_t hound_size(const hound_spec *spec, uint64_t samples) {
-    return s64(f110_hound_size((uint64_t)(uintptr_t)spec, samples));
+    return s64(f112_hound_size((uint64_t)(uintptr_t)spec, samples));
 }
 
 int64_t hound_header(const hound_spec *spec, uint64_t samples, uint8_t *out, size_t capacity) {
     STACK(176);
-    return s64(f78_hound_header(sp, (uint64_t)(uintptr_t)spec, samples, (uint64_t)(uintptr_t)out, capacity));
+    return s64(f80_hound_header(sp, (uint64_t)(uintptr_t)spec, samples, (uint64_t)(uintptr_t)out, capacity));
 }
 
 int64_t hound_sizes(const hound_spec *spec, uint64_t data_start, uint64_t samples, uint8_t *out, size_t capacity) {
-    return s64(f112_hound_sizes((uint64_t)(uintptr_t)spec, data_start, samples, (uint64_t)(uintptr_t)out, capacity));
+    return s64(f114_hound_sizes((uint64_t)(uintptr_t)spec, data_start, samples, (uint64_t)(uintptr_t)out, capacity));
 }
 
 int64_t hound_filler(uint64_t data_start, uint8_t *out, size_t capacity) {
@@ -11503,17 +12239,17 @@ int64_t hound_filler(uint64_t data_start, uint8_t *out, size_t capacity) {
 
 int64_t hound_write_i16(const hound_spec *spec, const int16_t *samples, size_t count, uint8_t *out, size_t capacity) {
     STACK(192);
-    return s64(f136_hound_write_i16(sp, (uint64_t)(uintptr_t)spec, (uint64_t)(uintptr_t)samples, count, (uint64_t)(uintptr_t)out, capacity));
+    return s64(f138_hound_write_i16(sp, (uint64_t)(uintptr_t)spec, (uint64_t)(uintptr_t)samples, count, (uint64_t)(uintptr_t)out, capacity));
 }
 
 int64_t hound_write_i32(const hound_spec *spec, const int32_t *samples, size_t count, uint8_t *out, size_t capacity) {
     STACK(192);
-    return s64(f138_hound_write_i32(sp, (uint64_t)(uintptr_t)spec, (uint64_t)(uintptr_t)samples, count, (uint64_t)(uintptr_t)out, capacity));
+    return s64(f140_hound_write_i32(sp, (uint64_t)(uintptr_t)spec, (uint64_t)(uintptr_t)samples, count, (uint64_t)(uintptr_t)out, capacity));
 }
 
 int64_t hound_write_f32(const hound_spec *spec, const float *samples, size_t count, uint8_t *out, size_t capacity) {
     STACK(176);
-    return s64(f134_hound_write_f32(sp, (uint64_t)(uintptr_t)spec, (uint64_t)(uintptr_t)samples, count, (uint64_t)(uintptr_t)out, capacity));
+    return s64(f136_hound_write_f32(sp, (uint64_t)(uintptr_t)spec, (uint64_t)(uintptr_t)samples, count, (uint64_t)(uintptr_t)out, capacity));
 }
 
 int64_t hound_append_i16(uint8_t *file, size_t capacity, size_t used, const int16_t *samples, size_t count) {
@@ -11533,12 +12269,12 @@ int64_t hound_append_f32(uint8_t *file, size_t capacity, size_t used, const floa
 
 int64_t hound_repair(uint8_t *file, size_t capacity, size_t used, hound_repair_t *found) {
     STACK(1024);
-    return s64(f102_hound_repair(sp, (uint64_t)(uintptr_t)file, capacity, used, (uint64_t)(uintptr_t)found));
+    return s64(f104_hound_repair(sp, (uint64_t)(uintptr_t)file, capacity, used, (uint64_t)(uintptr_t)found));
 }
 
 int64_t hound_repair_to_end(uint8_t *file, size_t capacity, size_t used, hound_repair_t *found) {
     STACK(1024);
-    return s64(f104_hound_repair_to_end(sp, (uint64_t)(uintptr_t)file, capacity, used, (uint64_t)(uintptr_t)found));
+    return s64(f106_hound_repair_to_end(sp, (uint64_t)(uintptr_t)file, capacity, used, (uint64_t)(uintptr_t)found));
 }
 
 int32_t hound_find_damage(const uint8_t *file, size_t length, hound_repair_t *found) {
@@ -11547,12 +12283,12 @@ int32_t hound_find_damage(const uint8_t *file, size_t length, hound_repair_t *fo
 }
 
 void hound_repairer_begin(uint64_t length, uint32_t mode, hound_repairer *repairer) {
-    f106_hound_repairer_begin(length, (uint32_t)mode, (uint64_t)(uintptr_t)repairer);
+    f108_hound_repairer_begin(length, (uint32_t)mode, (uint64_t)(uintptr_t)repairer);
 }
 
 int32_t hound_repairer_next(hound_repairer *repairer, hound_repair_t *found) {
     STACK(1984);
-    return s32(f108_hound_repairer_next(sp, (uint64_t)(uintptr_t)repairer, (uint64_t)(uintptr_t)found));
+    return s32(f110_hound_repairer_next(sp, (uint64_t)(uintptr_t)repairer, (uint64_t)(uintptr_t)found));
 }
 
 int64_t hound_decode_i8(const hound_spec *spec, const uint8_t *bytes, size_t length, int8_t *out, size_t count) {
@@ -11594,15 +12330,15 @@ int64_t hound_encode_f32(const hound_spec *spec, const float *samples, size_t co
 }
 
 int32_t hound_value_8(uint32_t container) {
-    return s32(f124_hound_value_8((uint32_t)container));
+    return s32(f126_hound_value_8((uint32_t)container));
 }
 
 int32_t hound_value_16(uint32_t container) {
-    return s32(f118_hound_value_16((uint32_t)container));
+    return s32(f120_hound_value_16((uint32_t)container));
 }
 
 int32_t hound_value_24(uint32_t container) {
-    return s32(f120_hound_value_24((uint32_t)container));
+    return s32(f122_hound_value_24((uint32_t)container));
 }
 
 int32_t hound_value_32(uint32_t container) {
@@ -11627,21 +12363,21 @@ int64_t hound_container_32(int32_t value) {
 
 int64_t hound_to_f32(const hound_spec *spec, const uint8_t *bytes, size_t length, float *out, size_t count) {
     STACK(16);
-    return s64(f114_hound_to_f32(sp, (uint64_t)(uintptr_t)spec, (uint64_t)(uintptr_t)bytes, length, (uint64_t)(uintptr_t)out, count));
+    return s64(f116_hound_to_f32(sp, (uint64_t)(uintptr_t)spec, (uint64_t)(uintptr_t)bytes, length, (uint64_t)(uintptr_t)out, count));
 }
 
 int64_t hound_from_f32(const hound_spec *spec, const float *samples, size_t count, uint8_t *out, size_t capacity, uint64_t *clipped) {
     STACK(16);
-    return s64(f72_hound_from_f32(sp, (uint64_t)(uintptr_t)spec, (uint64_t)(uintptr_t)samples, count, (uint64_t)(uintptr_t)out, capacity, (uint64_t)(uintptr_t)clipped));
+    return s64(f74_hound_from_f32(sp, (uint64_t)(uintptr_t)spec, (uint64_t)(uintptr_t)samples, count, (uint64_t)(uintptr_t)out, capacity, (uint64_t)(uintptr_t)clipped));
 }
 
 int64_t hound_to_f64(const hound_spec *spec, const uint8_t *bytes, size_t length, double *out, size_t count) {
-    return s64(f116_hound_to_f64((uint64_t)(uintptr_t)spec, (uint64_t)(uintptr_t)bytes, length, (uint64_t)(uintptr_t)out, count));
+    return s64(f118_hound_to_f64((uint64_t)(uintptr_t)spec, (uint64_t)(uintptr_t)bytes, length, (uint64_t)(uintptr_t)out, count));
 }
 
 int64_t hound_from_f64(const hound_spec *spec, const double *samples, size_t count, uint8_t *out, size_t capacity, uint64_t *clipped) {
     STACK(16);
-    return s64(f74_hound_from_f64(sp, (uint64_t)(uintptr_t)spec, (uint64_t)(uintptr_t)samples, count, (uint64_t)(uintptr_t)out, capacity, (uint64_t)(uintptr_t)clipped));
+    return s64(f76_hound_from_f64(sp, (uint64_t)(uintptr_t)spec, (uint64_t)(uintptr_t)samples, count, (uint64_t)(uintptr_t)out, capacity, (uint64_t)(uintptr_t)clipped));
 }
 
 int64_t hound_dither_f32(const hound_spec *spec, const float *samples, size_t count, uint64_t *state, uint8_t *out, size_t capacity, uint64_t *clipped) {
@@ -11668,28 +12404,28 @@ int32_t hound_beginning(const hound_spec *spec, uint32_t number, hound_effect *e
 }
 
 int32_t hound_recorder_begin(const hound_spec *spec, hound_recorder *recorder) {
-    return s32(f90_hound_recorder_begin((uint64_t)(uintptr_t)spec, (uint64_t)(uintptr_t)recorder));
+    return s32(f92_hound_recorder_begin((uint64_t)(uintptr_t)spec, (uint64_t)(uintptr_t)recorder));
 }
 
 int32_t hound_recorder_resume(const hound_repair_t *found, uint32_t allowed, hound_recorder *recorder) {
-    return s32(f98_hound_recorder_resume((uint64_t)(uintptr_t)found, (uint32_t)allowed, (uint64_t)(uintptr_t)recorder));
+    return s32(f100_hound_recorder_resume((uint64_t)(uintptr_t)found, (uint32_t)allowed, (uint64_t)(uintptr_t)recorder));
 }
 
 int32_t hound_recorder_write(hound_recorder *recorder, uint64_t samples) {
     STACK(96);
-    return s32(f100_hound_recorder_write(sp, (uint64_t)(uintptr_t)recorder, samples));
+    return s32(f102_hound_recorder_write(sp, (uint64_t)(uintptr_t)recorder, samples));
 }
 
 void hound_recorder_checkpoint(hound_recorder *recorder) {
     STACK(96);
-    f92_hound_recorder_checkpoint(sp, (uint64_t)(uintptr_t)recorder);
+    f94_hound_recorder_checkpoint(sp, (uint64_t)(uintptr_t)recorder);
 }
 
 int64_t hound_recorder_frames_left(const hound_recorder *recorder) {
-    return s64(f94_hound_recorder_frames_left((uint64_t)(uintptr_t)recorder));
+    return s64(f96_hound_recorder_frames_left((uint64_t)(uintptr_t)recorder));
 }
 
 int32_t hound_recorder_next(hound_recorder *recorder) {
     STACK(176);
-    return s32(f96_hound_recorder_next(sp, (uint64_t)(uintptr_t)recorder));
+    return s32(f98_hound_recorder_next(sp, (uint64_t)(uintptr_t)recorder));
 }
