@@ -16,8 +16,8 @@ import wav  # noqa: E402
 
 from hound_bindings import Cause, State, _library  # noqa: E402
 from hound_bindings._library import (  # noqa: E402
-    DONE, FAILED, POINTER, READ, SHORTEN, SIZE, SYNC, U64, WRITE, WRITE_BLOCK, CInfo, CRecorder, CRepair, CRepairer,
-    CSpec, CWalk,
+    DONE, FAILED, NOTHING_NEW, POINTER, READ, SHORTEN, SIZE, SYNC, U64, WRITE, WRITE_BLOCK, CFollower, CInfo,
+    CRecorder, CRepair, CRepairer, CSpec, CWalk,
 )  # fmt: skip
 
 INT, NUMBER = ctypes.c_int32, ctypes.c_uint32
@@ -30,6 +30,7 @@ FIND_DAMAGE = _library.function("find_damage", POINTER, SIZE, POINTER, result=IN
 REPAIRER_BEGIN = _library.function("repairer_begin", U64, NUMBER, POINTER, result=None)
 REPAIRER_NEXT = _library.function("repairer_next", POINTER, POINTER, result=INT)
 WALK_NEXT = _library.function("walk_next", POINTER, POINTER, result=INT)
+FOLLOWER_NEXT = _library.function("follower_next", POINTER, result=INT)
 PENDING, NOTHING, MEND, OVERWRITE, FIND, REPAIR = 0, 0, 1, 2, 0, 1
 PHASES, HEALTHS = ("Idle", "Saving", "Requested", "Writing", "Cleaning"), ("Sound", "Suspect", "Dead")
 # Two channels of 16 bits: a frame has four bytes, and the data begin at 44.
@@ -757,6 +758,205 @@ def _():
     walk.effect.report = FAILED
     before = bytes(walk)
     same((WALK_NEXT(ctypes.byref(walk), ctypes.byref(info)), bytes(walk)), (failed_with(Cause.NOT_PERFORMED), before))
+
+
+# ---- followers
+
+# Which bytes the last four reads of a look request, where the data begin at 44.
+LENGTH = [(40, 4), (43, 1), (42, 1), (41, 1), (40, 1)]
+
+
+def follows(follower, report=PENDING):
+    """What a follower returns, and the read that it requests."""
+    follower.effect.report = report
+    code = FOLLOWER_NEXT(ctypes.byref(follower))
+    return code, (follower.effect.place, follower.effect.length) if code == 1 else None
+
+
+def look(follower, *files):
+    """The reads of a look, and what it returns. Each read is of the next file, and those after the last file are of
+    that one."""
+    parts, (code, part) = [], follows(follower)
+    while code == 1:
+        parts.append(part)
+        read(follower, files[min(len(parts), len(files)) - 1])
+        code, part = follows(follower, DONE)
+    return parts, code
+
+
+def following(file=stereo(FRAMES, 8)):
+    """A follower that has read the header, and has counted what that counts."""
+    follower = CFollower()
+    same([look(follower, file)[1] for _ in range(2)], [0, 0])
+    return follower
+
+
+def next_look(follower, file, reads):
+    """A follower in a look, so many of whose reads are done, and the next one is requested."""
+    code, part = follows(follower)
+    for _ in range(reads):
+        read(follower, file)
+        code, part = follows(follower, DONE)
+    return code, part
+
+
+@case("Walks", "as many as the next part of the header has", "after the parts before")
+def _():
+    same(look(CFollower(), CUT_OFF), (FRONT, 0))
+    with_junk = wav.with_chunk(CUT_OFF, b"junk\4\0\0\0abcd")
+    same(look(CFollower(), with_junk)[0], [(0, 12), (12, 8), (23, 9), (32, 16), (48, 8)])
+
+
+@case("Looks, at the Length", "4", "those of the data length")
+def _():
+    same(look(following(), CUT_OFF)[0], LENGTH[:1])
+    with_junk = wav.with_chunk(CUT_OFF, b"junk\4\0\0\0abcd")
+    same(look(following(with_junk), with_junk)[0], [(52, 4)])
+
+
+@case("Looks, at a Byte", "1", "that of the data length with its number")
+def _():
+    same(look(following(), stereo(FRAMES))[0], LENGTH)
+
+
+@case("any", "none", "it requests the same again", "as it was")
+def _():
+    for reads, part in enumerate(FRONT):
+        follower = CFollower()
+        same(next_look(follower, CUT_OFF, reads), (1, part))
+        before = bytes(follower)
+        same((follows(follower), bytes(follower)), ((1, part), before))
+    for reads, part in enumerate(LENGTH):
+        follower = following()
+        same(next_look(follower, stereo(FRAMES), reads), (1, part))
+        before = bytes(follower)
+        same((follows(follower), bytes(follower)), ((1, part), before))
+
+
+@case("Walks", "done, and another part decides", "it requests that part", "at that part")
+def _():
+    for reads, part in enumerate(FRONT):
+        same(next_look(CFollower(), CUT_OFF, reads), (1, part))
+
+
+@case(
+    "Walks", "done, and the data begin after it", "Grew",
+    "at the Length of this recording, of which none is counted",
+)
+def _():
+    follower = CFollower()
+    same((look(follower, CUT_OFF), follower.data_start, follower.counted), ((FRONT, 0), START, 0))
+    spec = follower.spec
+    same((spec.sample_rate, spec.channels, spec.bits_per_sample, spec.bytes_per_sample), (8000, 2, 16, 2))
+    same(follows(follower), (1, LENGTH[0]))
+
+
+@case("Walks", "done, and the file ends before the data begin", "NothingNew", "at the first part")
+def _():
+    for length in range(START):
+        follower = CFollower()
+        parts, code = look(follower, CUT_OFF[:length])
+        same((code, follower.data_start), (NOTHING_NEW, 0))
+        same(parts, FRONT[: len(parts)])
+        same(look(follower, CUT_OFF), (FRONT, 0))
+
+
+@case("Walks", "done, and the file isn't read", "Rejected, with the cause", "at the first part")
+def _():
+    for file, cause in (
+        (b"RIFX" + CUT_OFF[4:], Cause.NO_RIFF_TAG),
+        (wav.by_hand(FRAMES, channels=2, tag=6), Cause.UNSUPPORTED),
+    ):
+        follower = CFollower()
+        for _ in range(2):
+            same((look(follower, file)[1], follower.data_start), (failed_with(cause), 0))
+        same(look(follower, CUT_OFF), (FRONT, 0))
+
+
+@case("Looks, at the Length", "done, with the length that was read last", "NothingNew", "as it was")
+def _():
+    follower = following()
+    same((follows(follower), read(follower, CUT_OFF)), ((1, LENGTH[0]), None))
+    same((follows(follower, DONE), follower.counted), ((NOTHING_NEW, None), 8))
+    same((look(follower, CUT_OFF), follower.counted), ((LENGTH[:1], NOTHING_NEW), 8))
+
+
+@case(
+    "Looks, at the Length", "done, with another length", "it requests the last byte of the length", "at that Byte"
+)
+def _():
+    # Also one that counts fewer, or differs in one byte only.
+    for counted in 0, 7, 9, 40, 8 + 2**8, 8 + 2**16, 8 + 2**24:
+        follower = following()
+        same(next_look(follower, stereo(FRAMES, counted), 1), (1, (43, 1)))
+        same(follower.counted, 8)
+
+
+@case("Looks, at Byte 0", "done, and the length is that of no file", "TooLong", "at the Length")
+def _():
+    # The RIFF size counts 36 bytes before the data, and the pad byte after data of odd length.
+    for counted in 2**32 - 37, 2**32 - 36, 2**32 - 1:
+        follower = following()
+        for _ in range(2):
+            parts, code = look(follower, stereo(FRAMES, counted, riff=0))
+            same((parts, code, follower.counted), (LENGTH, failed_with(Cause.TOO_LONG), 8))
+        same((look(follower, stereo(FRAMES))[1], follower.counted), (0, 40))
+
+
+@case(
+    "Looks, at Byte 0", "done, and the length counts more whole frames", "Grew", "at the Length, with these counted"
+)
+def _():
+    for counted, whole in ((12, 12), (15, 12), (40, 40), (2**32 - 38, 2**32 - 40)):
+        follower = following()
+        same((look(follower, stereo(FRAMES, counted, riff=0)), follower.counted), ((LENGTH, 0), whole))
+        same(follows(follower), (1, LENGTH[0]))
+    # Each byte is that of the file when it is read: here the second one of 256, and the first one of 260.
+    follower = following(stereo(FRAMES, 256))
+    torn = stereo(FRAMES, 252), stereo(FRAMES, 252), stereo(FRAMES, 252), stereo(FRAMES, 256), stereo(FRAMES, 260)
+    same((look(follower, *torn), follower.counted), ((LENGTH, 0), 260))
+
+
+@case("Looks, at Byte 0", "done, and it counts no more", "NothingNew", "at the Length")
+def _():
+    # 9 has no whole frame more, and fewer take back none. What was read last is known again.
+    for counted in 9, 11, 0, 4, 7:
+        follower = following()
+        same((look(follower, stereo(FRAMES, counted)), follower.counted), ((LENGTH, NOTHING_NEW), 8))
+        same((look(follower, stereo(FRAMES, counted)), follower.counted), ((LENGTH[:1], NOTHING_NEW), 8))
+        same((look(follower, stereo(FRAMES)), follower.counted), ((LENGTH, 0), 40))
+
+
+@case("Looks, at another Byte", "done", "it requests the byte before that one", "at that Byte")
+def _():
+    for reads in 1, 2, 3:
+        same(next_look(following(), stereo(FRAMES), reads + 1), (1, LENGTH[reads + 1]))
+
+
+@case("Looks", "done, with fewer bytes than were requested", "Truncated", "at the Length")
+def _():
+    for reads in range(5):
+        follower = following()
+        same(next_look(follower, stereo(FRAMES), reads), (1, LENGTH[reads]))
+        read(follower, b"")
+        same((follows(follower, DONE), follower.counted), ((failed_with(Cause.TRUNCATED), None), 8))
+        same(follows(follower), (1, LENGTH[0]))
+    follower = following()
+    same(look(follower, CUT_OFF[:43]), (LENGTH[:1], failed_with(Cause.TRUNCATED)))
+
+
+@case("any", "failed", "NotPerformed", "where the next look begins")
+def _():
+    for reads in range(4):
+        follower = CFollower()
+        same(next_look(follower, CUT_OFF, reads), (1, FRONT[reads]))
+        same(follows(follower, FAILED), (failed_with(Cause.NOT_PERFORMED), None))
+        same(follows(follower), (1, FRONT[0]))
+    for reads in range(5):
+        follower = following()
+        same(next_look(follower, stereo(FRAMES), reads), (1, LENGTH[reads]))
+        same((follows(follower, FAILED), follower.counted), ((failed_with(Cause.NOT_PERFORMED), None), 8))
+        same(follows(follower), (1, LENGTH[0]))
 
 
 def rows():
