@@ -499,7 +499,7 @@ if has python3 "the Python package" && has "$cc" "the Python package"; then
         has strace "killed Python programs, and failing calls of theirs" \
             && check "killed Python programs, and failing calls of theirs" python_faults
         check "killed recordings in parts, by hound-wav, Python, C, Node and Cargo" parts
-        check "killed recordings that are followed meanwhile, by C, Python and hound-wav, and wrong followers" followed
+        check "killed recordings that are followed meanwhile, by C, Python, hound-wav, Node and Cargo, and wrong followers" followed
         check "files of hound_rows, cut files and each code, beside the model, through cat.c and by record.c" rows
         check "the Python program of docs/BINDINGS.md" page_of_python
     else

@@ -67,6 +67,18 @@ for block in hound.follow(path, 333, timeout=60, poll=0.003, idle=float(idle), p
     sys.stdout.buffer.write(block)
     sys.stdout.buffer.flush()
 """
+FOLLOWS_IN_NODE = f"""
+import fs from "node:fs";
+import {{ follow }} from "{TOP}/bindings/js/hound.js";
+const [path, idle, ...parts] = process.argv.slice(2);
+while (!fs.existsSync(path)) await new Promise((resolve) => setTimeout(resolve, 3));
+for await (const block of follow(path, {{ frames: 333, poll: 3, idle: 1000 * idle, parts: parts.length > 0 }})) {{
+  const bytes = new Uint8Array(block.buffer);
+  for (let given = 0; given < bytes.length;) given += fs.writeSync(1, bytes, given);
+}}
+"""
+# A recorder has its file locked so many seconds after that is there.
+STARTED = 0.5
 # A wrong version of hound_follow.h: what takes the place of a part.
 TRUSTS_THE_SIZE = (
     "    count = follower->counted - follow->given;\n",
@@ -89,6 +101,14 @@ def follower_in_c(folder, name, *change):
     text, header = (contents_of(os.path.join(C, file)).decode() for file in ("follow.c", "hound_follow.h"))
     header = changed(header, *change) if change else header
     return compiled(folder, name, changed(text, '#include "hound_follow.h"\n', header))
+
+
+def example_in_rust(folder, name):
+    """An example of the Cargo package hound."""
+    target = os.path.join(folder, "target")
+    words = ["cargo", "build", "-q", "--offline", "--example", name, "--target-dir", target]
+    subprocess.run([*words, "--manifest-path", f"{TOP}/bindings/hound/Cargo.toml"], check=True)
+    return os.path.join(target, "debug", "examples", name)
 
 
 class Recorder:
@@ -120,10 +140,7 @@ def recorders_in(folder):
     else:
         print("follow: passed over, since node isn't here: its recorder")
     if shutil.which("cargo"):
-        target = os.path.join(folder, "target")
-        words = ["cargo", "build", "-q", "--offline", "--example", "record", "--target-dir", target]
-        subprocess.run([*words, "--manifest-path", f"{TOP}/bindings/hound/Cargo.toml"], check=True)
-        in_rust = os.path.join(target, "debug", "examples", "record")
+        in_rust = example_in_rust(folder, "record")
         # Without `durable` it locks nothing.
         words_for = lambda path, how: [in_rust, path, *SHAPE, "100", *how]  # noqa: E731
         kinds["Cargo"] = Recorder(words_for, {"durable", "append"}, lambda how: "durable" in how)
@@ -132,20 +149,46 @@ def recorders_in(folder):
     return kinds
 
 
+class Follower:
+    """What starts a follower: by the path, how long it waits for more of a recorder that locks nothing, and whether it
+    goes on in parts. `can` is what it can: see that another file has the path, and tell by its status whether a repair
+    brings more back. `says` is what it says of a file that becomes another one."""
+
+    def __init__(self, words_for, can, says="the file was replaced, emptied or cut off meanwhile"):
+        self.words_for, self.can, self.says = words_for, can, says
+
+
 def followers_in(folder):
-    """What starts each follower: by the path, how long it waits for more of a recorder that locks nothing, and whether
-    it goes on in parts."""
     in_c, in_python = follower_in_c(folder, "follow"), program(folder, "follow_it.py", FOLLOWS_IN_PYTHON)
     command = [sys.executable, "-m", "hound_bindings", "cat", "--follow", "--timeout", "60"]
 
     def by_options(words):
         return lambda path, idle, parts: [*words, path, "--idle", str(idle), *["--parts"] * parts]
 
-    return {
-        "follow.c": lambda *how: by_options([in_c])(*how) + ["--timeout", "60", "--poll", "3"],
-        "Python": lambda path, idle, parts: [sys.executable, in_python, path, str(idle), *["parts"] * parts],
-        "hound-wav": by_options(command),
+    kinds = {
+        "follow.c": Follower(
+            lambda *how: by_options([in_c])(*how) + ["--timeout", "60", "--poll", "3"], {"parts", "path", "status"}
+        ),
+        "Python": Follower(
+            lambda path, idle, parts: [sys.executable, in_python, path, str(idle), *["parts"] * parts],
+            {"parts", "path"},
+        ),
+        "hound-wav": Follower(by_options(command), {"parts", "path", "status"}),
     }
+    if shutil.which("node"):
+        in_node = program(folder, "follow.mjs", FOLLOWS_IN_NODE)
+        words = lambda path, idle, parts: ["node", in_node, path, str(idle + STARTED), *["parts"] * parts]  # noqa: E731
+        kinds["Node"] = Follower(words, {"parts"}, "TRUNCATED")
+    else:
+        print("follow: passed over, since node isn't here: its follower")
+    if shutil.which("cargo"):
+        in_rust = example_in_rust(folder, "follow")
+        waits = f'while ! [ -e "$1" ]; do sleep 0.003; done; exec {in_rust} "$1" "$2"'
+        words = lambda path, idle, _: ["sh", "-c", waits, "sh", path, f"{1000 * (idle + STARTED):.0f}"]  # noqa: E731
+        kinds["Cargo"] = Follower(words, set(), "the file lacks samples that its header counts")
+    else:
+        print("follow: passed over, since cargo isn't here: its follower")
+    return kinds
 
 
 def held_in(path):
@@ -171,8 +214,8 @@ class Run:
         self.path = os.path.join(folder, "take.wav")
         self.some, self.recorder, self.how, self.sent = some, recorder, how, 0
         idle = 0 if recorder.is_locked(how) else 3
-        words, pipes = follow(self.path, idle, "parts" in how), {"stdout": subprocess.PIPE, "stderr": subprocess.PIPE}
-        self.follower = subprocess.Popen(words, **pipes)
+        words = follow.words_for(self.path, idle, "parts" in how)
+        self.follower = subprocess.Popen(words, stdout=subprocess.PIPE, stderr=subprocess.PIPE)
         self.given = []
         self.reading = threading.Thread(target=lambda: self.given.append(self.follower.stdout.read()))
         self.reading.start()
@@ -212,8 +255,8 @@ class Run:
         return self.given[0], status, said
 
 
-def run_once(recorder, how, follow, is_plain, some, folder):
-    """One run: what it counts for. `is_plain` says that the status of the follower says nothing."""
+def run_once(recorder, how, follow, some, folder):
+    """One run: what it counts for."""
     is_killed, is_continued = some.random() < 0.85, "append" in how
     run = Run(folder, some, recorder, how, follow)
     try:
@@ -236,7 +279,8 @@ def run_once(recorder, how, follow, is_plain, some, folder):
     else:
         expect(f"{len(out)} bytes are given, and {len(counted)} counted: {said}", out == counted)
         is_whole = not has_none and held == counted
-        expect(f"status {status}, and {len(held)} of {len(counted)}: {said}", is_plain or (status == 0) == is_whole)
+        is_told = "status" not in follow.can or (status == 0) == is_whole
+        expect(f"status {status}, and {len(held)} of {len(counted)}: {said}", is_told)
         expect("not all is recorded", is_killed or out == DATA[: run.sent])
     return {
         "killed": is_killed or is_continued, "with samples": len(out) > 0, "bytes": len(out),
@@ -252,12 +296,13 @@ def runs(kinds, follows, count, seed, folder):
         some = random.Random(f"{seed} {number}")
         kind, name = pairs[number % len(pairs)]
         recorder = kinds[kind]
-        how = [word for word in ("durable", "parts") if word in recorder.can and some.random() < 0.4]
+        can = recorder.can & (follows[name].can | {"durable", "append"})
+        how = [word for word in ("durable", "parts") if word in can and some.random() < 0.4]
         if "append" in recorder.can and "parts" not in how and some.random() < 0.3:
             how.append("append")
         with tempfile.TemporaryDirectory(dir=folder) as own:
             try:
-                return run_once(recorder, how, follows[name], name == "Python", some, own)
+                return run_once(recorder, how, follows[name], some, own)
             except Wrong as error:
                 return f"run {number}, {kind} {' '.join(how)}, followed by {name}: {error}"
 
@@ -276,14 +321,14 @@ def check_other_files(follows, folder):
     whole = b"RIFF" + struct.pack("<I", 36 + 4000) + b"WAVEfmt " + form
     whole += b"data" + struct.pack("<I", 4000) + DATA[:4000]
     for name, follow in follows.items():
-        for what in "emptied", "cut off", "recorded anew", "replaced":
+        for what in "emptied", "cut off", "recorded anew", *["replaced"] * ("path" in follow.can):
             path = os.path.join(folder, "other.wav")
             with open(path, "wb", buffering=0) as file:
                 fcntl.flock(file, fcntl.LOCK_EX)
                 file.write(whole)
                 pipes = {"stdout": subprocess.PIPE, "stderr": subprocess.PIPE}
-                with subprocess.Popen(follow(path, 0, False), **pipes) as running:
-                    expect(f"{name} gives other samples", running.stdout.read(4000) == DATA[:4000])
+                with subprocess.Popen(follow.words_for(path, 0, False), **pipes) as running:
+                    given = running.stdout.read(4000)
                     if what == "replaced":
                         with open(path + "2", "wb") as other:
                             other.write(whole[::-1])
@@ -295,11 +340,15 @@ def check_other_files(follows, folder):
                         os.pwrite(file.fileno(), struct.pack("<I", 8000), 40)
                     if what != "recorded anew":
                         fcntl.flock(file, fcntl.LOCK_UN)
-                    out, said = running.communicate(timeout=20)
+                    try:
+                        out, said = running.communicate(timeout=20)
+                    finally:
+                        running.kill()
+                expect(f"{name} gives other samples", given == DATA[:4000])
                 expect(f"{name}: a file that is {what} gives more: {len(out)}", not out)
-                is_said = running.returncode == 1 and b"the file was replaced, emptied or cut off meanwhile" in said
+                is_said = running.returncode == 1 and follow.says in said.decode()
                 expect(f"{name}: a file that is {what} is no error: {said.decode()}", is_said)
-    print("follow: a file that is emptied, cut off, recorded anew or replaced is an error of each follower", flush=True)
+    print("follow: a file that is emptied, cut off, recorded anew or replaced is an error of its follower", flush=True)
 
 
 def main():
@@ -317,7 +366,7 @@ def main():
         wrong = follower_in_c(folder, "wrong", *TRUSTS_THE_SIZE)
         words_for = lambda path, idle, parts: [wrong, path, "--timeout", "60", "--poll", "1"]  # noqa: E731
         only = {"Python": Recorder(kinds["Python"].words_for, {"durable"})}
-        if not runs(only, {"one that trusts the size": words_for}, 15, "wrong", folder):
+        if not runs(only, {"one that trusts the size": Follower(words_for, {"status"})}, 15, "wrong", folder):
             sys.exit("follow: one that trusts the size isn't found")
         failure = runs(kinds, follows, count, "right", folder)
         if failure:
