@@ -100,7 +100,7 @@ if IN_CARGO:
     INTERRUPTED = "Err(error) if error.kind() == ErrorKind::Interrupted => {}\n" + " " * 16 + FAILED
     MEND, TO_END = "repair_by(Task::Repair, filename", "repair_by(Task::RepairToEnd, filename"
     WRONG = {
-        "no sync": ("|(disk, sync)| sync(disk)", "|_| Ok(())"),
+        "no sync": (SYNC, "Ok(())"),
         "a sync that fails is ignored": (SYNC, SYNC + ".or(Ok(()))"),
         "a write that fails is ignored": (FAILED, "Err(_) => return Ok(bytes.len()),"),
         "a write that is left out": ("match inner.write(bytes) {", "match inner.write(&bytes[..0]).map(|_| 9) {"),

@@ -1027,6 +1027,8 @@ class Command(Folder):
 
     def test_a_signal_while_no_input_comes(self):
         form = ("--rate", "8000", "--channels", "2", "--bits", "16", "--checkpoint", "100000")
+        # As at a terminal, also where nohup runs the tests.
+        self.addCleanup(signal.signal, signal.SIGHUP, signal.signal(signal.SIGHUP, signal.SIG_DFL))
         for number in signal.SIGINT, signal.SIGTERM, signal.SIGHUP:
             self.leave_as("a.wav", b"")
             running = self.begun("record", "a.wav", *form, "--overwrite")
