@@ -20,12 +20,12 @@ impl error::Error for Error {
     #[allow(deprecated)]
     fn description(&self) -> &str {
         match self {
-            Error::IoError(error) => error.description(),
-            Error::FormatError(reason) => reason,
-            Error::TooWide => "the sample has more bits than the destination type",
-            Error::UnfinishedSample => "the number of samples written is not a multiple of the number of channels",
-            Error::Unsupported => "the wave format of the file is not supported",
-            Error::InvalidSampleFormat => "the sample format differs from the destination format",
+            Self::IoError(error) => error.description(),
+            Self::FormatError(reason) => reason,
+            Self::TooWide => "the sample has more bits than the destination type",
+            Self::UnfinishedSample => "the number of samples written is not a multiple of the number of channels",
+            Self::Unsupported => "the wave format of the file is not supported",
+            Self::InvalidSampleFormat => "the sample format differs from the destination format",
         }
     }
 

@@ -207,7 +207,7 @@ class _Pace:
         self._news = time.monotonic()
 
     def may_ask(self, has_header: bool) -> bool:
-        """Whether the lock may be asked for now."""
+        """Whether it is time to ask for the lock, which then counts as asked."""
         now, least = time.monotonic(), self.idle if has_header else max(self.idle, _ASKED)
         if now - self._news < least or now - self._asked < _ASKED:
             return False
