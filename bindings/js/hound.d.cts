@@ -292,7 +292,8 @@ export interface Follow {
  * Reads a recording while another program makes it, in Node: the frames that its header counts so far, as `read`
  * returns them, and further ones as soon as they are counted. Each is one that the recorder accepted. It ends where the
  * recording has ended, also where its recorder was killed: `findDamageInFile` says whether a repair finds more. A file
- * that was emptied or replaced meanwhile is the error TRUNCATED.
+ * that was emptied, cut off or recorded anew meanwhile is the error TRUNCATED; of one whose path another file has
+ * now, the old one is read to its end.
  */
 export function follow<T extends keyof Arrays>(
   path: string | URL,

@@ -1431,7 +1431,7 @@ const pause = (milliseconds) => new Promise((resolve) => setTimeout(resolve, mil
  * Reads a recording at a path while another program makes it, in Node: a block of at most `frames` frames, as `read`
  * returns them, as soon as its header counts them. It looks every `poll` milliseconds, and ends once nothing new is
  * counted for `idle` milliseconds and no other program has the file locked. With `parts` it continues in the next file,
- * as of a recorder with `split`. A file that becomes another one is an error.
+ * as of a recorder with `split`. A file that is emptied or recorded anew is an error.
  */
 export async function* follow(path, options = {}) {
   const { frames = 4096, poll = 50, idle = 2000, parts = false, ...how } =
