@@ -11,14 +11,17 @@ others are listed below. It also looks that
 - the first example of docs/USING.md's "Record and read", the lines that it says pass, and each example of a
   documentation comment are in functions that a test runs or that are proved;
 - docs/TESTING.md has the numbers of rows and of mutants;
-- the text of each mutant, and of each twin, is in its file once, and the name of a mutant begins with the function, or
-  the constant, that it changes (without the hound_ of an export); no two mutants of a crate are the same edit;
+- the text of each mutant, and of each twin, is in its file once, and in a function, and the name of a mutant begins
+  with the function, or the constant, that it changes (without the hound_ of an export); no two mutants of a crate are
+  the same edit;
 - no line of the code has more than 120 columns."""
 import glob
 import os
 import re
 import subprocess
 import sys
+
+from edits import crates, edits_of
 
 TOP = os.path.dirname(os.path.dirname(os.path.abspath(__file__)))
 PAGES = ["README.md"] + sorted("docs/" + name for name in os.listdir(os.path.join(TOP, "docs")) if name.endswith(".md"))
@@ -42,7 +45,7 @@ def sources():
     for folder, folders, files in os.walk(os.path.join(TOP, "crates")):
         folders[:] = [name for name in folders if name not in ("out", "target")]
         for name in files:
-            if name.endswith((".rt", ".antt", ".edit", ".sh", ".py")) or name == "stdin":
+            if name.endswith((".rt", ".antt", ".edits", ".sh", ".py")) or name == "stdin":
                 yield os.path.join(folder, name)
 
 
@@ -145,47 +148,48 @@ def miscounted():
     """What the pages count in another way than the repository has it."""
     with open(os.path.join(TOP, "crates", "hound_rows", "stdin")) as file:
         rows = sum(1 for line in file if line.strip() and not line.startswith("#"))
-    every = len(glob.glob(os.path.join(TOP, "crates/*/mutants/*.edit")))
-    twins = len(glob.glob(os.path.join(TOP, "crates/*/twins/*.edit")))
-    of_writer = glob.glob(os.path.join(TOP, "crates/hound_writer/twins/*.edit"))
-    tried = sum("\nlong:" not in read(twin) for twin in of_writer)
-    for said in (f"{rows:,} lines", f"| {every}; {twins}; {tried} |"):
+    every = len(all_edits("mutant"))
+    twins = all_edits("twin")
+    tried = sum(twin.crate == "hound_writer" and not twin.is_long for twin in twins)
+    for said in (f"{rows:,} lines", f"| {every}; {len(twins)}; {tried} |"):
         if said not in read("docs/TESTING.md"):
             yield "docs/TESTING.md", said
 
 
+def all_edits(kind=None):
+    """The mutants and twins of all crates, or those of one kind."""
+    return [edit for crate in crates() for edit in edits_of(crate, kind)]
+
+
 def misfits():
-    """The edits of mutants and twins whose text isn't in their file exactly once."""
-    for path in sorted(glob.glob(os.path.join(TOP, "crates/*/*/*.edit"))):
-        text = ""
-        for line in read(path).split("\n"):
-            if line.startswith("file: "):
-                text = read(os.path.join(os.path.dirname(path), "..", line[6:]))
-            elif line.startswith("old: ") and text.count(line[5:]) != 1:
-                yield os.path.relpath(path, TOP), line[5:]
+    """The edits of mutants and twins whose text isn't in their file exactly once, or that are in no function."""
+    for edit in all_edits():
+        for old, _ in edit.pairs:
+            if edit.text.count(old) != 1:
+                yield f"{edit.crate}: {edit.name}", old
+        if not edit.function:
+            yield f"{edit.crate}: {edit.name}", "it is in no function, and names none"
 
 
 def repeated():
     """The mutants of a crate that are the edit of another one."""
     seen = {}
-    for path in sorted(glob.glob(os.path.join(TOP, "crates/*/mutants/*.edit"))):
-        edit = os.path.dirname(path), read(path)
-        if edit in seen:
-            yield os.path.relpath(path, TOP), os.path.basename(seen[edit])
-        seen[edit] = path
+    for edit in all_edits("mutant"):
+        other = seen.setdefault((edit.crate, edit.file, edit.pairs), edit)
+        if other is not edit:
+            yield f"{edit.crate}: {edit.name}", other.name
 
 
 def misnamed():
     """The mutants whose name doesn't begin with the function, or the constant, that they change; some add a type."""
-    for path in sorted(glob.glob(os.path.join(TOP, "crates/*/mutants/*.edit"))):
-        edit, crate = read(path), os.path.dirname(os.path.dirname(path))
-        text = read(os.path.join(crate, re.search("^file: (.*)$", edit, flags=re.M)[1]))
-        old = re.findall("^old: (.*)$", edit, flags=re.M)[-1]
-        items = re.findall(r"\bfn (\w+)|^(?:const|static) (\w+)", text[: text.find(old) + len(old)], flags=re.M)
+    for edit in all_edits("mutant"):
+        old = edit.pairs[-1][0]
+        before = edit.text[: edit.text.find(old) + len(old)]
+        items = re.findall(r"\bfn (\w+)|^(?:const|static) (\w+)", before, flags=re.M)
         changed = "".join(items[-1]).lower() if items else ""
-        wanted = changed.removeprefix("hound_") if crate.endswith("/hound_c") else changed
-        if not os.path.basename(path).startswith(wanted + "_") and not old.startswith("impl "):
-            yield os.path.relpath(path, TOP), wanted
+        wanted = changed.removeprefix("hound_") if edit.crate == "hound_c" else changed
+        if not edit.name.startswith(wanted + "_") and not old.startswith("impl "):
+            yield f"{edit.crate}: {edit.name}", wanted
 
 
 def too_long():

@@ -1,6 +1,6 @@
 #!/usr/bin/env python3
 """Compiles each mutant and each twin, without proving any: one that can't be compiled counts for nothing, and otherwise
-only `./mutants` and `scripts/try_promises.py` of its crate would show that.
+only `./mutants` of its crate would show that.
 
 As many as can be made at once are, in a copy of all crates, for `rt try` to compile. It is to stop before it makes a
 program of them, which takes longer than to look at all of them, so the program above them has one error. Where there
@@ -10,7 +10,6 @@ whether the names are still there that contracts and proofs cite.
 usage: scripts/compile_mutants.py [CRATE..]     (every crate that has mutants where none is named)
 
 It says why an edit can't be compiled, and last 'compile: N of N mutants and twins compile'."""
-import glob
 import os
 import re
 import shutil
@@ -18,31 +17,23 @@ import subprocess
 import sys
 import tempfile
 
-from try_promises import TOP, below, read_edit
+from edits import TOP, crates, edits_of
 
 PROGRAM = "use std::rt::HostRuntime;\n\nfn main(_rt: HostRuntime) {\n    not_there();\n}\n"
 WANTED = r"src/main\.rt:4:5: error\[unknown-name\]: cannot find value `not_there` in this scope\n"
 END = "run=none proved=no\n"
 
 
-def edits_of(crate):
-    """The mutants and the twins of a crate, each with its crate and the folder of its kind."""
-    folder = os.path.join(TOP, "crates", crate)
-    for kind in ("mutants", "twins"):
-        for path in sorted(glob.glob(os.path.join(folder, kind, "*.edit"))):
-            yield crate, kind, read_edit(path, folder)
-
-
 def texts_with(edits):
     """The texts of the files once all of these edits are made; none where one of them can't be made after the others."""
     texts = {}
-    for crate, _, edit in edits:
-        text = texts.get((crate, edit.file), edit.text)
+    for edit in edits:
+        text = texts.get((edit.crate, edit.file), edit.text)
         for old, new in edit.pairs:
             if text.count(old) != 1:
                 return None
             text = text.replace(old, new)
-        texts[crate, edit.file] = text
+        texts[edit.crate, edit.file] = text
     return texts
 
 
@@ -51,7 +42,7 @@ def rounds(edits):
     found = []
     for one in edits:
         for at_once in found:
-            beside = [other for other in at_once if (other[0], other[2].file) == (one[0], one[2].file)]
+            beside = [other for other in at_once if (other.crate, other.file) == (one.crate, one.file)]
             if texts_with([*beside, one]) and texts_with([one, *beside]):
                 break
         else:
@@ -70,9 +61,9 @@ def says(edits, copy):
         with open(os.path.join(copy, "crates", crate, path), "w") as file:
             file.write(text)
     with open(os.path.join(TOP, "crates.txt")) as file:
-        crates = file.read().replace(" staticlib:", ":")
+        lines = file.read().replace(" staticlib:", ":")
     with open(os.path.join(copy, "crates.txt"), "w") as file:
-        file.write(crates + f"nothing: {' '.join(dict.fromkeys(crate for crate, _, _ in edits))}\n")
+        file.write(lines + f"nothing: {' '.join(dict.fromkeys(edit.crate for edit in edits))}\n")
     run = subprocess.run(
         ["rt", "try"],
         cwd=os.path.join(copy, "crates", "nothing"),
@@ -91,11 +82,11 @@ def broken(edits, copy):
     """Those of these edits that can't be compiled, and why."""
     why = says(edits, copy)
     if not why or len(edits) == 1:
-        return [(*edit, why) for edit in edits if why]
+        return [(edit, why) for edit in edits if why]
     texts, found = texts_with(edits), set()
     for crate, path, number in re.findall(r"^crates/(\w+)/(\S+?):(\d+):", why, flags=re.M):
         line = texts[crate, path].split("\n")[int(number) - 1] if (crate, path) in texts else ""
-        found |= {one for one in edits if one[0] == crate and any(new in line for _, new in one[2].pairs)}
+        found |= {one for one in edits if one.crate == crate and any(new in line for _, new in one.pairs)}
     parts = [[one] for one in edits if one in found] + [[one for one in edits if one not in found]]
     if not 0 < len(found) < len(edits):
         parts = [edits[: len(edits) // 2], edits[len(edits) // 2 :]]
@@ -103,22 +94,21 @@ def broken(edits, copy):
 
 
 def main():
-    crates = below()
-    named = sys.argv[1:] or crates
-    if unknown := [crate for crate in named if crate not in crates]:
+    named = sys.argv[1:] or crates()
+    if unknown := [crate for crate in named if crate not in crates()]:
         sys.exit(f"compile: there is no crate {' '.join(unknown)}")
     edits = [edit for crate in named for edit in edits_of(crate)]
     if not edits:
         sys.exit("compile: there are no mutants")
     with tempfile.TemporaryDirectory(prefix="hound_compile_") as copy:
-        left_out = shutil.ignore_patterns("out", "proofs", "mutants", "twins", "data")
+        left_out = shutil.ignore_patterns("out", "proofs", "data")
         shutil.copytree(os.path.join(TOP, "crates"), os.path.join(copy, "crates"), ignore=left_out)
         os.makedirs(os.path.join(copy, "crates", "nothing", "src"))
         with open(os.path.join(copy, "crates", "nothing", "src", "main.rt"), "w") as file:
             file.write(PROGRAM)
         found = [one for at_once in rounds(edits) for one in broken(at_once, copy)]
-    for crate, kind, edit, why in found:
-        print(f"compile: {crate}/{kind}/{edit.name}.edit: CAN'T BE COMPILED: {why}", end="")
+    for edit, why in found:
+        print(f"compile: {edit.crate}: {edit.kind} {edit.name}: CAN'T BE COMPILED: {why}", end="")
     print(f"compile: {len(edits) - len(found)} of {len(edits)} mutants and twins compile")
     sys.exit(len(found) > 0)
 

@@ -1,8 +1,9 @@
 // The functions of `callers` and `reading`, each run once.
-use hound::{Decode, Source, Task, WavReader, WavWriter};
+use hound::{Decode, Source, Task, WavReader, WavWriter, store_with_noise};
 use hound_callers::{
     look_and_repair, open_written, publish, read_block, read_from, read_memory, record_at_once,
-    reopen, repair_by_requests, sample_at, samples_of, through_a_float, written_and_read,
+    reopen, repair_by_requests, sample_at, samples_of, store_two_blocks, through_a_float,
+    written_and_read,
 };
 use hound_test_helpers::{
     FOUR_SAMPLES, NO_SAMPLES, empty_tape, name_of_answer, sixteen, tape_of, without_medium,
@@ -95,6 +96,26 @@ fn an_integer_comes_back_from_a_float(rt: HostRuntime) -> Result<(), Fail> {
         through_a_float(-1, 8),
     );
     assert_eq!(rt; back, (-8_388_608, 8_388_607, -1));
+    Ok(())
+}
+
+#[test]
+fn two_blocks_have_the_noise_of_one(rt: HostRuntime) -> Result<(), Fail> {
+    let amplitudes = [0.25_f64, -0.5, 0.125, 1.0];
+    let (mut whole, mut first, mut second) = ([0; 8], [0; 2], [0; 6]);
+    let (mut state, mut later) = (7, 7);
+    store_with_noise(&mut whole, &amplitudes, 16, 2, &mut state);
+    store_two_blocks(
+        &mut first,
+        &mut second,
+        &amplitudes[..1],
+        &amplitudes[1..],
+        16,
+        2,
+        &mut later,
+    );
+    assert!(rt; whole[..2] == first && whole[2..] == second);
+    assert_eq!(rt; later, state);
     Ok(())
 }
 

@@ -27,7 +27,7 @@ use Rattle.hound_callers.specs.Recorder.{
   HasRequest,
   IsFailure,
   IsFull,
-  IsRejected,
+  IsBlockRejected,
   IsPerformable,
   TakesNoMore,
   once_done,
@@ -325,9 +325,9 @@ grown_more first r new blocks i d less grown is =
 
 -- what a recorder rejects doesn't hang on what is under way
 pub takes_no_more : (first r : Recorder) (blocks : List (Bor (List ℕ))) (i : ℕ) (d : Bor (List ℕ)) → i < length blocks
-    → HasGrown first r blocks i → IsRejected r (get_or blocks i d) → IsFull first blocks i
+    → HasGrown first r blocks i → IsBlockRejected r (get_or blocks i d) → IsFull first blocks i
 takes_no_more first r blocks i d less grown rejected =
-    rw (drop-cons blocks i d less) (subst (λ (r : Recorder). IsRejected r (get_or blocks i d)) grown rejected)
+    rw (drop-cons blocks i d less) (subst (λ (r : Recorder). IsBlockRejected r (get_or blocks i d)) grown rejected)
 
 pub takes_none : (first : Recorder) (blocks : List (Bor (List ℕ))) (n : ℕ) → length blocks ≤ n → IsFull first blocks n
 takes_none first blocks n all = let none : drop n blocks ≡ [] = grind (arith, common_steps) in rw none tt

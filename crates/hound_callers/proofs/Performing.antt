@@ -12,7 +12,7 @@ use Rattle.hound.specs.declared.Phase.{Phase}
 use Rattle.hound.specs.declared.Phase.TheVariants.{Idle, Saving, Requested, Writing, Cleaning}
 use Rattle.hound.specs.declared.Report.TheVariants.{Pending}
 use Rattle.hound.specs.declared.RecorderError.TheVariants.{NotWritable, UnfinishedFrame, TooLong, Truncated, NeedsMend, NeedsOverwrite, NeedsCheckpoint, SyncFailed}
-use Rattle.hound_callers.specs.Recorder.{IsDirected, IsFree, IsReady, IsRejected, ReadsBlocks, Saves, Stops, StopsSaving, StopsIn, samples_of}
+use Rattle.hound_callers.specs.Recorder.{IsDirected, IsFree, IsReady, IsBlockRejected, ReadsBlocks, Saves, Stops, StopsSaving, StopsIn, samples_of}
 use Rattle.hound_callers.specs.Recording.{published_calls}
 use Rattle.hound_callers.proofs.Publishing.{accepted, last_call}
 
@@ -67,7 +67,7 @@ rejects r Cleaning free is = absurd free
 pub not_taken : (r new : Recorder) (block : Bor (List ℕ)) (error : RecorderError)
     → length block.now % r.bytes_per_sample ≡ 0 → IsReady r
     → AsksForBlock Pending (length block.now / r.bytes_per_sample) r new (Err error)
-    → (new ≡ r) × IsRejected r block
+    → (new ≡ r) × IsBlockRejected r block
 not_taken r new block error whole ready asks =
     let (end, gives, (why, is)) = begins_block r new _ (Err error) asks in
     let given = nothing_given r end ready.2 gives in (
@@ -76,7 +76,8 @@ not_taken r new block error whole ready asks =
     )
   where
     by : (error : RecorderError)
-        → RejectsBlock (length block.now / r.bytes_per_sample) (record r { phase = Idle }) error → IsRejected r block
+        → RejectsBlock (length block.now / r.bytes_per_sample) (record r { phase = Idle }) error
+        → IsBlockRejected r block
     by SyncFailed dead = let sound = ready.1 in cc (sound, dead)
     by UnfinishedFrame (alive, inl none) = absurd (let some = ready.5 in omega (arith, some, none))
     by UnfinishedFrame (alive, inr torn) = inr (inl torn)
@@ -102,7 +103,7 @@ on_err (Err e) here = here refl
 
 -- a block of which nothing was written
 pub stopped_before : (s : WavSpecEx) (file : Begun) (known : List Known) (r : Recorder) (block : Bor (List ℕ))
-    (m : MediumState) → IsRejected r block → r.number ≡ 0 → IsDirected s file known r m
+    (m : MediumState) → IsBlockRejected r block → r.number ≡ 0 → IsDirected s file known r m
     → Stops s file known block r m
 stopped_before s file known r block m rejected none directed =
     ([], inl (rejected, refl), none, rw append-nil directed)

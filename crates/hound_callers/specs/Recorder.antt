@@ -210,8 +210,8 @@ abbrev pub asked_as : WavSpecEx → Recorder → List ℕ → Asked
 asked_as s r bytes = asked_in r.phase s bytes
 
 -- a recorder can't take this block: it is no whole frames, or the sizes would pass 32 bits
-abbrev pub IsRejected : Recorder → Bor (List ℕ) → Type 0
-IsRejected r block = (length block.now % r.bytes_per_sample ≡ 0 → ⊥)
+abbrev pub IsBlockRejected : Recorder → Bor (List ℕ) → Type 0
+IsBlockRejected r block = (length block.now % r.bytes_per_sample ≡ 0 → ⊥)
     ⊎ (length block.now / r.bytes_per_sample % r.channels ≡ 0 → ⊥)
     ⊎ (greatest_u32 < riff_size r.data_start (r.data_length + length block.now))
 
@@ -243,7 +243,7 @@ total_length (block ∷ blocks) = length block.now + total_length blocks
 -- no block is left, or the recorder rejects the next one
 abbrev pub TakesNoMore : Recorder → List (Bor (List ℕ)) → Type 0
 TakesNoMore r [] = Unit
-TakesNoMore r (block ∷ blocks) = IsRejected r block
+TakesNoMore r (block ∷ blocks) = IsBlockRejected r block
 
 -- the first n of these blocks follow the data of a recorder, and it takes no more
 abbrev pub IsFull : Recorder → List (Bor (List ℕ)) → ℕ → Type 0
@@ -256,7 +256,7 @@ UnlessFault tells lost old new P = AreAllKept lost → WhereTells tells (NoFault
 
 -- the calls of a block that wasn't saved, and their marks: none, a write that failed, or a checkpoint that did
 abbrev pub StopsIn : WavSpecEx → Recorder → Bor (List ℕ) → List (Asked × Bool) → Type 0
-StopsIn s r block calls = (IsRejected r block × (calls ≡ [])) ⊎ (calls ≡ (write (samples_of s block), false) ∷ [])
+StopsIn s r block calls = (IsBlockRejected r block × (calls ≡ [])) ⊎ (calls ≡ (write (samples_of s block), false) ∷ [])
     ⊎ (calls ≡ (write (samples_of s block), true) ∷ (publish, false) ∷ [])
 
 -- those after which the first of these blocks wasn't saved

@@ -1,19 +1,20 @@
 // Functions of a user of the library, whose contracts follow from its public ones.
-ghost use Rattle.std.specs.Prelude.{◌≡◌, ℕ, ◌/◌, ◌<◌, ◌≤◌, ◌++◌, Bool, ◌⊎◌, false, true, ⊤, List, length, map, ◌∷◌, None, Some, Ok, Err, Result, IfErr, IfOk, IfSome, IsTrue, MatchResult, OnOk};
+ghost use Rattle.std.specs.Prelude.{◌≡◌, ℕ, ◌/◌, ◌*◌, ◌<◌, ◌≤◌, ◌++◌, Bool, ◌⊎◌, false, true, ⊤, List, length, map, ◌∷◌, None, Some, Ok, Err, Result, IfErr, IfOk, IfSome, IsTrue, MatchResult, OnOk};
 ghost use Rattle.std.specs.List.{AllByRecursion, concat};
-ghost use Rattle.hound.specs.{AreContainers, AreKnown, Begun, Call, Checkpoints, Damage, Error, Finishes, HasPublished, Head, IsFoundAt, IsIoError, IsLeftAfter, IsLookedAt, IsNext, IsNoPad, IsSameFile, IsSixteen, IsSoundSpec, IsStored, IsWritable, Keeps, Known, Log, MediumState, OpensAs, Performed, ReaderState, ReadsAs, ReadsFrames, Recorded, Repair, Repairs, RepairsMedium, Seeks, WavSpecEx, WhereKeeps, WhereTells, accepted_by_all, accepted_samples, begins_at, canonical, container_at, containers, fits, found_in, frame_length, held, meaning_at, mending, one_more, rejection_at, repair_of, sample_count, samples_before, samples_left, shown_length, start_of, unread};
+ghost use Rattle.hound.specs.{AreContainers, AreKnown, Begun, Call, Checkpoints, Damage, Error, Finishes, HasPublished, Head, IsFoundAt, IsIoError, IsLeftAfter, IsLookedAt, IsNext, IsNoPad, IsPair, IsSameFile, IsSixteen, IsSoundSpec, IsStored, IsWritable, Keeps, Known, Log, MediumState, OpensAs, Performed, ReaderState, ReadsAs, ReadsFrames, Recorded, Repair, Repairs, RepairsMedium, Seeks, WavSpecEx, WhereKeeps, WhereTells, accepted_by_all, accepted_samples, begins_at, canonical, container_at, containers, fits, found_in, frame_length, held, int_container, joined_containers, meaning_at, mending, one_more, rejection_at, repair_of, sample_count, samples_before, samples_left, scaled_to, shown_length, start_of, state_after, unread, with_noise};
 ghost use Rattle.std.specs.declared.io.Error.{Error as IoFault};
 ghost use Rattle.hound.specs.declared.Error.TheVariants.{OutOfMemory};
+ghost use Rattle.hound.specs.declared.SampleFormat.TheVariants.{Int};
 ghost use Rattle.hound.specs.declared.RepairState.TheVariants.{HasChunksAfterData, Whole};
 ghost use Rattle.hound_callers.specs.Recording.{IsDoneAgain, IsDoneAgainAfterLoss, IsNoBatch, as_item};
 
 use hound::{
-    Error, Medium, Repair, Sample, Source, WavReader, WavWriter, a_look_finds_what_a_repair_does,
+    Amplitude, Error, Medium, Repair, Sample, Source, WavReader, WavWriter, a_look_finds_what_a_repair_does,
     a_repair_keeps_stored_samples, a_repair_loses_no_published_sample,
     a_second_repair_writes_nothing, a_seek_leads_to_its_frame, a_stopped_repair_is_done_again,
     a_writer_holds_its_calls, an_iterator_gives_what_it_hints, an_ok_flush_is_kept, effects_mend,
-    find_damage, float_to_int, int_to_float, items_are_of_the_file, one_answer, repair,
-    repair_to_end, scaled_integers_come_back, written_is_read,
+    find_damage, float_to_int, int_to_float, items_are_of_the_file, noise_continues, one_answer,
+    repair, repair_to_end, scaled_integers_come_back, store_with_noise, written_is_read,
 };
 use std::alloc::Global;
 use std::{io, result};
@@ -181,4 +182,28 @@ pub fn through_a_float(sample: i32, bits: u16) -> i32
 {
     scaled_integers_come_back();
     float_to_int(int_to_float(sample, bits), bits).0
+}
+
+/// Audio that comes in two blocks, stored with noise that continues from the first to the second: the bytes are those
+/// of both blocks in one call (`stored`), and so is the noise after them (`state`). So the length of a program's blocks
+/// changes nothing that it writes.
+pub fn store_two_blocks<S: Amplitude>(
+    first_bytes: &mut [u8],
+    second_bytes: &mut [u8],
+    first: &[S],
+    second: &[S],
+    bits: u16,
+    width: u16,
+    state: &mut u64,
+)
+    requires pair { IsPair Int bits width }
+    requires first_fits { length first_bytes.old ≡ width * length first.now }
+    requires second_fits { length second_bytes.old ≡ width * length second.now }
+    ensures stored { first_bytes.new ++ second_bytes.new ≡ joined_containers (λ v. int_container v bits width)
+        (map (scaled_to bits) (with_noise S.amplitude bits state.old (first.now ++ second.now))) }
+    ensures state { state.new ≡ state_after (length (first.now ++ second.now)) state.old }
+{
+    noise_continues::<S>();
+    store_with_noise(first_bytes, first, bits, width, state);
+    store_with_noise(second_bytes, second, bits, width, state);
 }

@@ -13,7 +13,7 @@ mod twelve;
 
 pub use callers::{
     a_repair_by_hand_is_done_again, finish, look_and_repair, open_written, publish,
-    repair_recording, sample_at, samples_of, through_a_float,
+    repair_recording, sample_at, samples_of, store_two_blocks, through_a_float,
 };
 pub use example::record_and_read;
 pub use following::follow_meanwhile;

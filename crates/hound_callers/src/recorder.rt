@@ -5,7 +5,7 @@ ghost use Rattle.hound.specs.{Asked, Begun, Directed, DoesBeginning, DoesBeginni
 ghost use Rattle.hound.specs.declared.Phase.TheVariants.{Idle, Saving};
 ghost use Rattle.hound.specs.declared.BeginningEffect.TheVariants.{Empty};
 ghost use Rattle.hound.specs.declared.Report.TheVariants.{Done, Pending};
-ghost use Rattle.hound_callers.specs.Recorder.{CountsDirected, Continues, IsFound, IsNotContinued, IsNotMended, IsResumed, once_mended, HasRequest, IsDirected, IsErrorOf, IsNotBegunBy, IsNotResumed, IsReady, LosesBeginning, PerformsAll, AreAllKept, CountsFaults, IsFailure, IsFull, IsPerformable, IsRejected, UnlessFault, Saves, Stops, StopsSaving, TriesAction, asked_as, once_done, report_for, samples_of, AreParts, IsPart, run_within};
+ghost use Rattle.hound_callers.specs.Recorder.{CountsDirected, Continues, IsFound, IsNotContinued, IsNotMended, IsResumed, once_mended, HasRequest, IsDirected, IsErrorOf, IsNotBegunBy, IsNotResumed, IsReady, LosesBeginning, PerformsAll, AreAllKept, CountsFaults, IsFailure, IsFull, IsPerformable, IsBlockRejected, UnlessFault, Saves, Stops, StopsSaving, TriesAction, asked_as, once_done, report_for, samples_of, AreParts, IsPart, run_within};
 ghost use Rattle.hound_callers.specs.Recording.{published_calls};
 
 use hound::{
@@ -144,7 +144,7 @@ fn save_block<M: Medium>(
     }) }
     ensures faults { WhereTells M.tells (CountsFaults (M.state medium.old) (M.state medium.new)) }
     ensures cause { UnlessFault M.tells lost.now (M.state medium.old) (M.state medium.new)
-        (is_ok result ≡ false → IsRejected recorder.old block.entry) }
+        (is_ok result ≡ false → IsBlockRejected recorder.old block.entry) }
 {
     a_recorder_directs();
     let width = recorder.bytes_per_sample as usize;

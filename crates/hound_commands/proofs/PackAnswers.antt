@@ -12,7 +12,7 @@ use Rattle.hound_spec.specs.declared.spec.SampleFormat.TheVariants.{Int}
 use Rattle.hound_spec.specs.declared.spec.WavSpecEx.{WavSpecEx}
 use Rattle.hound_sample.proofs.Joined.{length-concat}
 use Rattle.hound_writer.proofs.Fresh.{fresh_file}
-use Rattle.hound_commands.specs.Commands.{failure_of, HasRoom, IsPackError, IsPackFailure, IsPacked, containers_of}
+use Rattle.hound_commands.specs.Commands.{failure_of, FitsSizes, IsPackError, IsPackFailure, IsPacked, containers_of}
 
 -- a container and those after it
 pub parts : (first : Result (List ℕ) Rejection) (more : Result (List (List ℕ)) Rejection)
@@ -109,13 +109,13 @@ module _ {W : Type 0} (s : WavSpecEx) (integers : s.spec.sample_format ≡ Int) 
   -- what an Ok accepts: containers, with room for them
   pub write_accepted : (asked : Result (List (List ℕ)) Rejection) → containers_of s ns ≡ asked
       → AcceptAnswer {T = Unit {0}} asked first (Ok tt)
-      → (cs : List (List ℕ)) × (containers_of s ns ≡ Ok cs) × HasRoom s cs
+      → (cs : List (List ℕ)) × (containers_of s ns ≡ Ok cs) × FitsSizes s cs
   write_accepted (Err rejection) is answer = cc
   write_accepted (Ok cs) is answer = (cs, is, by_test _ refl answer)
     where
       by_test : (b : Bool)
           → nat_le (riff_size first.data_start (data_length first + length (concat cs))) greatest_u32 ≡ b
-          → FitAnswer {T = Unit {0}} b (Ok tt) → HasRoom s cs
+          → FitAnswer {T = Unit {0}} b (Ok tt) → FitsSizes s cs
       by_test true size fit = omega (arith, leb-true _ _ size, room_is cs)
       by_test false size fit = cc
 
@@ -139,7 +139,7 @@ module _ {W : Type 0} (s : WavSpecEx) (integers : s.spec.sample_format ≡ Int) 
         torn ((λ i. count_is i % ((spec ∙ begun.spec) i).spec.channels) ∙ frames)
 
     -- the error of an end: the samples are no whole frames
-    pub end_rejected : HasRoom s cs → (e : Error) → IsPublishing {T = Unit {0}} (Err e) last
+    pub end_rejected : FitsSizes s cs → (e : Error) → IsPublishing {T = Unit {0}} (Err e) last
         → IsPackFailure s ns (failure_of e)
     end_rejected room UnfinishedSample answer = (
       begun.writable,

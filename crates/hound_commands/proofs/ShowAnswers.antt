@@ -15,7 +15,7 @@ use Rattle.hound_spec.specs.declared.spec.SampleFormat.{SampleFormat}
 use Rattle.hound_spec.specs.declared.spec.WavSpec.{WavSpec}
 use Rattle.hound_spec.specs.declared.spec.WavSpecEx.{WavSpecEx}
 use Rattle.hound_commands.proofs.Outputs.{appends-none, gets-more, gets-none, gets-stopped, gets-then, gets-written}
-use Rattle.hound_commands.specs.Commands.{failure_of, AnswersSamples, GetsBeginning, GetsBuffered, AreShowable, Shows, ShowsSamples, ShowsUntil, IsTextUntil, StopsSamples, spec_line, sample_line, sample_lines, show_rejection}
+use Rattle.hound_commands.specs.Commands.{failure_of, ReportsSamples, GetsBeginning, GetsBuffered, AreShowable, Shows, ShowsSamples, ShowsUntil, IsTextUntil, StopsSamples, spec_line, sample_line, sample_lines, show_rejection}
 use Rattle.hound_commands.specs.declared.error.CommandError.{CommandError}
 use Rattle.hound_commands.specs.declared.error.CommandError.TheVariants.{BadNumber, InputOrOutput, Rejected}
 
@@ -188,7 +188,7 @@ faulted s n (Rejected e) bytes first text (some, rejected, text_is) =
 -- a fault, whatever was returned before it
 pub stopped : (s : WavSpecEx) (n : ℕ) (result : Result (Unit {0}) CommandError) (left old new : Option (List ℕ))
     (first last : List ℕ)
-    → AnswersSamples s n result left old new first last → StopsSamples s n InputOrOutput left old new first last
+    → ReportsSamples s n result left old new first last → StopsSamples s n InputOrOutput left old new first last
 stopped s n (Ok x) left old new first last shown =
     IfSome_then left shown (λ bytes (showable, got). (
       first ++ sample_lines s n bytes,
@@ -202,7 +202,7 @@ stopped s n (Err failure) left old new first last stops =
 -- the failure that `?` returns
 pub stops_as : (s : WavSpecEx) (n : ℕ) (result : Result (Unit {0}) CommandError) (failure : CommandError)
     (left old new : Option (List ℕ)) (first last : List ℕ) → IsErrAnd result (λ e. e ≡ failure)
-    → StopsSamples s n failure left old new first last → AnswersSamples s n result left old new first last
+    → StopsSamples s n failure left old new first last → ReportsSamples s n result left old new first last
 stops_as s n (Ok x) failure left old new first last is stops = absurd is
 stops_as s n (Err e) failure left old new first last is stops =
     subst (λ f. StopsSamples s n f left old new first last) (sym is) stops

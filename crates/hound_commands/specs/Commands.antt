@@ -100,14 +100,14 @@ StopsSamples s count failure left old new first buffered = IfSome left (λ bytes
     × IsTextUntil s count failure bytes first text × GetsBuffered old new buffered text)
 
 -- what was shown of so many samples, by the result
-abbrev pub AnswersSamples : WavSpecEx → ℕ → Result (Unit {0}) CommandError → Option (List ℕ) → Option (List ℕ)
+abbrev pub ReportsSamples : WavSpecEx → ℕ → Result (Unit {0}) CommandError → Option (List ℕ) → Option (List ℕ)
     → Option (List ℕ) → List ℕ → List ℕ → Type 0
-AnswersSamples s count (Ok x) left old new first buffered = ShowsSamples s count left old new first buffered
-AnswersSamples s count (Err failure) left old new first buffered =
+ReportsSamples s count (Ok x) left old new first buffered = ShowsSamples s count left old new first buffered
+ReportsSamples s count (Err failure) left old new first buffered =
     StopsSamples s count failure left old new first buffered
 
 -- The bytes are a file that is shown whole, and this is the text.
-pub record IsShown (bytes text : List ℕ) : Type 0 where
+pub record IsPrinted (bytes text : List ℕ) : Type 0 where
   pub s : WavSpecEx
   pub samples : ℕ
   pub start : ℕ
@@ -117,7 +117,7 @@ pub record IsShown (bytes text : List ℕ) : Type 0 where
 
 -- the output got the lines of the file that the input's bytes are, all of them, and no other byte
 abbrev pub Shows : Option (List ℕ) → Option (List ℕ) → Option (List ℕ) → Type 0
-Shows input old new = IfSome input (λ bytes. (text : List ℕ) × IsShown bytes text × Appends old new text)
+Shows input old new = IfSome input (λ bytes. (text : List ℕ) × IsPrinted bytes text × Appends old new text)
 
 -- why nothing is shown: the head of the file is rejected, or there was a fault
 abbrev pub IsHeadFailure : List ℕ → CommandError → Type 0
@@ -156,15 +156,15 @@ abbrev pub containers_of : WavSpecEx → List ℤ → Result (List (List ℕ)) R
 containers_of s numbers = containers_in int_container s numbers
 
 -- the size fields of a file have room for these containers
-abbrev pub HasRoom : WavSpecEx → List (List ℕ) → Type 0
-HasRoom s containers = riff_size (data_start s) (length (concat containers)) ≤ greatest_u32
+abbrev pub FitsSizes : WavSpecEx → List (List ℕ) → Type 0
+FitsSizes s containers = riff_size (data_start s) (length (concat containers)) ≤ greatest_u32
 
 -- Numbers that can be packed, and the file that they make.
 pub record IsPacked (s : WavSpecEx) (numbers : List ℤ) (file : List ℕ) : Type 0 where
   pub writable : IsWritable s
   pub containers : List (List ℕ)
   pub have : containers_of s numbers ≡ Ok containers
-  pub room : HasRoom s containers
+  pub room : FitsSizes s containers
   pub frames : length containers % s.spec.channels ≡ 0
   pub file_is : file ≡ canonical s containers
 
@@ -172,28 +172,28 @@ pub record IsPacked (s : WavSpecEx) (numbers : List ℤ) (file : List ℕ) : Typ
 pub record IsTooLong (s : WavSpecEx) (numbers : List ℤ) : Type 0 where
   pub containers : List (List ℕ)
   pub have : containers_of s numbers ≡ Ok containers
-  pub no_room : HasRoom s containers → ⊥
+  pub no_room : FitsSizes s containers → ⊥
 
 -- The numbers have containers, with room for all, but are no whole frames.
 pub record IsUnfinished (s : WavSpecEx) (numbers : List ℤ) : Type 0 where
   pub containers : List (List ℕ)
   pub have : containers_of s numbers ≡ Ok containers
-  pub room : HasRoom s containers
+  pub room : FitsSizes s containers
   pub frames : length containers % s.spec.channels ≡ 0 → ⊥
 
 -- why numbers can't be packed in a spec that can be written: one is too wide; all have containers, but no room; or they
 -- are no whole frames
-abbrev pub IsRejected : WavSpecEx → List ℤ → Error → Type 0
-IsRejected s numbers TooWide = containers_of s numbers ≡ Err too_wide
-IsRejected s numbers TooLong = IsTooLong s numbers
-IsRejected s numbers UnfinishedSample = IsUnfinished s numbers
-IsRejected s numbers _ = ⊥
+abbrev pub CannotBePacked : WavSpecEx → List ℤ → Error → Type 0
+CannotBePacked s numbers TooWide = containers_of s numbers ≡ Err too_wide
+CannotBePacked s numbers TooLong = IsTooLong s numbers
+CannotBePacked s numbers UnfinishedSample = IsUnfinished s numbers
+CannotBePacked s numbers _ = ⊥
 
 -- why numbers aren't packed: the spec comes first; or there is no memory
 abbrev pub IsPackError : WavSpecEx → List ℤ → Error → Type 0
 IsPackError s numbers Unsupported = IsWritable s → ⊥
 IsPackError s numbers OutOfMemory = ⊤
-IsPackError s numbers e = IsWritable s × IsRejected s numbers e
+IsPackError s numbers e = IsWritable s × CannotBePacked s numbers e
 
 -- The same of a failure, where the numbers were read; a fault of the input or the output may come at any time.
 abbrev pub IsPackFailure : WavSpecEx → List ℤ → CommandError → Type 0

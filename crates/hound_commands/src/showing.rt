@@ -2,7 +2,7 @@
 ghost use Rattle.std.specs.Prelude.{◌≡◌, ◌+◌, ◌<◌, ◌++◌, ℕ, List, IfErr, OnOk, length};
 ghost use Rattle.std.specs.List.{flat_map};
 ghost use Rattle.hound_reader.specs.{meaning_at, rejection_at};
-ghost use Rattle.hound_commands.specs.Commands.{AnswersSamples, PushesOut, Shows, ShowsUntil, sample_line, show_rejection, spec_line};
+ghost use Rattle.hound_commands.specs.Commands.{ReportsSamples, PushesOut, Shows, ShowsUntil, sample_line, show_rejection, spec_line};
 ghost use Rattle.hound_text.specs.{HasLineRoom, integer_line, pattern_line};
 
 use crate::error::CommandError;
@@ -89,7 +89,7 @@ fn show_samples<R: io::Read, O: io::Write>(
     output: &mut O,
 ) -> Result<(), CommandError>
     requires fresh { reader.old.samples_read ≡ 0 }
-    ensures { AnswersSamples reader.old.spec_ex reader.old.num_samples result
+    ensures { ReportsSamples reader.old.spec_ex reader.old.num_samples result
         (R.remaining reader.old.reader.now) (O.contents output.old) (O.contents output.new) lines.old lines.new }
 {
     match reader.spec().sample_format {
@@ -112,7 +112,7 @@ fn show_blocks<S: Line, R: io::Read, O: io::Write>(
     requires rejection { rejection_at S.rejection reader.old.spec_ex ≡ show_rejection reader.old.spec_ex }
     requires line { (c : List ℕ) → S.line (meaning_at S.meaning reader.old.spec_ex c)
         ≡ sample_line reader.old.spec_ex c }
-    ensures { AnswersSamples reader.old.spec_ex reader.old.num_samples result
+    ensures { ReportsSamples reader.old.spec_ex reader.old.num_samples result
         (R.remaining reader.old.reader.now) (O.contents output.old) (O.contents output.new) lines.old lines.new }
 {
     loop {

@@ -2,7 +2,7 @@
 pub use Rattle.hound_slices.specs.Codes.{IsOfKind, Records, Returns, SaysSame, code_for, error_code, error_of_rejection, reason_code}
 pub use Rattle.hound_slices.specs.Reading.{Decodes, DecodesSamples, IsCutBefore, IsNumberOf, IsOtherType, IsReadError, MakesContainer, ReadsInto, ReadsSamples, read_check, rejection_error, stored, whole}
 pub use Rattle.hound_slices.specs.Writing.{AppendsInPlace, AppendsSamples, CanBeginAt, Encodes, GivesFiller, GivesHeader, GivesSizes, IsAppendingError, IsEncodeError, IsExplicit, IsFile, IsLengthInSector, IsRejectedBy, IsSizeError, IsUnencoded, IsWriteError, Sizes, WritesFile, file_size, filler, spec_from_c}
-pub use Rattle.hound_slices.specs.Repairing.{FindsInFile, HasHeadOf, IsDamageError, IsFileError, IsReported, RepairsFile, state_code, state_of_code}
+pub use Rattle.hound_slices.specs.Repairing.{FindsInFile, HasHeadOf, IsDamageError, IsRepairError, IsReported, RepairsFile, state_code, state_of_code}
 pub use Rattle.hound_slices.specs.Walks.{AnswersPart, AreAsked, Asks, AsksAgain, AsksOn, FindsHead, HasNoHead, IsHeadOf, IsStepNumber, Steps, TakesPart, bytes_of_part, found_of, part_end, part_of, walk_of, walk_with}
 pub use Rattle.hound_slices.specs.Scaling.{CountsClipped, EncodesFloats, IsNoInteger, NarrowsFloats, TakesNumbers, WidensFloats, becomes_infinite, clipped_among, integers}
 pub use Rattle.hound_slices.specs.Effects.{GivesBeginning, beginning_of, effect_of, effect_with, report_of}

@@ -54,9 +54,9 @@ IsDamageError bytes TooLong = HasUnfitHead bytes too_long
 IsDamageError bytes _ = ⊥
 
 -- why a file isn't repaired
-abbrev pub IsFileError : Bool → ℕ → List ℕ → CallError → Type 0
-IsFileError looks used old NoRoom = (length old < used) ⊎ LacksRoom looks used old
-IsFileError looks used old error = IsDamageError (take used old) error
+abbrev pub IsRepairError : Bool → ℕ → List ℕ → CallError → Type 0
+IsRepairError looks used old NoRoom = (length old < used) ⊎ LacksRoom looks used old
+IsRepairError looks used old error = IsDamageError (take used old) error
 
 -- what repairing does, by its outcome: the first n bytes are what `repair` leaves of the file, or `repair_to_end` where
 -- no chunks are looked for, all of them in the caller's memory, and what it found is reported; or all stays
@@ -64,4 +64,4 @@ abbrev pub RepairsFile : Bool → ℕ → List ℕ → List ℕ → HoundRepair 
 RepairsFile looks used old new was now (Ok n) = (used ≤ length old) × (n ≤ length new)
     × (found : Repair) × RepairsBytes looks used n found old new × IsReported found now
     × HasHeadOf (take used old) now
-RepairsFile looks used old new was now (Err error) = (new ≡ old) × (now ≡ was) × IsFileError looks used old error
+RepairsFile looks used old new was now (Err error) = (new ≡ old) × (now ≡ was) × IsRepairError looks used old error

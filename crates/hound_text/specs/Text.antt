@@ -132,10 +132,10 @@ abbrev pub Breaks : Place → List ℕ → Type 0
 Breaks place bytes = (tail : List ℕ) → numbers_from place (bytes ++ tail) ≡ None
 
 -- the numbers of an input are those so far, and then those that are still to come
-abbrev pub Follows : Option (List ℕ) → Option (List ℕ) → Place → List ℤ → Type 0
-Follows None left place numbers = ⊤
-Follows (Some text) None place numbers = ⊥
-Follows (Some text) (Some left) place numbers = numbers_from Between text ≡ before numbers (numbers_from place left)
+abbrev pub ReadsOn : Option (List ℕ) → Option (List ℕ) → Place → List ℤ → Type 0
+ReadsOn None left place numbers = ⊤
+ReadsOn (Some text) None place numbers = ⊥
+ReadsOn (Some text) (Some left) place numbers = numbers_from Between text ≡ before numbers (numbers_from place left)
 
 -- an error of the text itself: this breaks it; or there is too little memory for its numbers
 abbrev pub IsTextRejection : TextError → Type 0 → Type 0
@@ -144,8 +144,8 @@ IsTextRejection OutOfMemory breaks = ⊤
 IsTextRejection _ breaks = ⊥
 
 -- the error for an input with this text; a fault of the input or too little memory may come at any time
-abbrev pub IsRejected : TextError → List ℕ → Type 0
-IsRejected BadNumber text = SaysNoNumbers text
-IsRejected TooLong text = 4294967295 < length text
-IsRejected InputOrOutput text = ⊤
-IsRejected OutOfMemory text = ⊤
+abbrev pub IsInputRejected : TextError → List ℕ → Type 0
+IsInputRejected BadNumber text = SaysNoNumbers text
+IsInputRejected TooLong text = 4294967295 < length text
+IsInputRejected InputOrOutput text = ⊤
+IsInputRejected OutOfMemory text = ⊤

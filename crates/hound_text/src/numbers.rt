@@ -2,7 +2,7 @@
 ghost use Rattle.std.specs.Prelude.{◌≡◌, ℕ, ◌≤◌, ◌<◌, ◌++◌, true, false, List, IfErr, IfOk, IfSome, IsNone, OnOk, SomeIff, [], ◌∷◌, Some, None, length};
 ghost use Rattle.std.specs.Io.KnownBytes.{IsAtEnd};
 ghost use Rattle.std.specs.Str.Parse.{IsNumeral, digits_value};
-ghost use Rattle.hound_text.specs.Text.{IsRejected, IsTextRejection, Breaks, Leads, before, begins_with_digit, ended, is_digit, numbers_from, SaysNumbers};
+ghost use Rattle.hound_text.specs.Text.{IsInputRejected, IsTextRejection, Breaks, Leads, before, begins_with_digit, ended, is_digit, numbers_from, SaysNumbers};
 ghost use Rattle.hound_text.specs.declared.numbers.Place.TheVariants.{Between, Inside};
 ghost use Rattle.hound_text.specs.declared.numbers.TextError.TheVariants.{BadNumber};
 
@@ -117,7 +117,7 @@ fn take_bytes(
 pub fn read_numbers<R: io::Read>(alloc: Global, input: &mut R) -> Result<Vec<i32>, TextError>
     ensures end { OnOk result (IsAtEnd (R.remaining input.new)) }
     ensures numbers { IfOk result (λ numbers. IfSome (R.remaining input.old) (λ text. SaysNumbers text numbers.items)) }
-    ensures rejected { IfErr result (λ rejection. IfSome (R.remaining input.old) (IsRejected rejection)) }
+    ensures rejected { IfErr result (λ rejection. IfSome (R.remaining input.old) (IsInputRejected rejection)) }
 {
     let mut numbers = Vec::new(alloc);
     let mut place = Place::Between;

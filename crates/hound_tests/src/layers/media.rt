@@ -2,7 +2,8 @@
 ghost use Rattle.std.specs.Prelude.{◌+◌, [], true};
 ghost use Rattle.std.proofs.Common.{rules};
 
-use hound_medium::{Placed, Source, put_all};
+use hound_durable::{Durable, Target};
+use hound_medium::{Journal, Medium, Placed, Source, put_all};
 use hound_test_helpers::path_of;
 use std::alloc::Global;
 use std::io::{BufReader, BufWriter, ErrorKind};
@@ -70,6 +71,31 @@ fn a_medium_of_ones_own_rejects_places_above_all(rt: HostRuntime) {
         (lent, went),
         (([true, false], 1, 1), (true, [false, false]))
     );
+}
+
+// Writes three letters and then one over the second, and says how many bytes of these had been flushed by then.
+fn flushed_when_it_goes_back(mut target: Target<Journal>) -> io::Result<(Journal, usize)> {
+    put_all(&mut target, b"abc")?;
+    target.shift(-2)?;
+    put_all(&mut target, b"X")?;
+    let journal = match target {
+        Target::Plain(journal) => journal,
+        Target::Synced(durable) => durable.into_inner(),
+    };
+    let flushed = journal.flushed();
+    Ok((journal, flushed))
+}
+
+#[test]
+fn a_target_is_flushed_before_it_goes_back_if_it_is_to_be(rt: HostRuntime) -> Result<(), Fail> {
+    let alloc = rt.alloc();
+    let plain = Target::Plain(Journal::new(alloc, Vec::new(alloc))?);
+    let synced = Target::Synced(Durable::new(Journal::new(alloc, Vec::new(alloc))?));
+    for (target, wanted) in [(plain, 0), (synced, 3)] {
+        let (journal, flushed) = flushed_when_it_goes_back(target)?;
+        assert!(rt; flushed == wanted && journal.bytes_after(alloc, journal.taken())?.as_slice() == b"aXc");
+    }
+    Ok(())
 }
 
 // Where a shift and a go lead to, shown by the letter that is written there, and whether a shift below 0 is an error.

@@ -4,7 +4,7 @@ use Rattle.hound_number.specs.{Writes}
 use Rattle.hound_commands.proofs.Outputs.{appends-kept, appends-none, part-written}
 use Rattle.hound_commands.proofs.ShowAnswers.{err_is, file_shown, file_stops, head_stops, part_stops, stopped}
 use Rattle.hound_spec.specs.declared.spec.WavSpecEx.{WavSpecEx}
-use Rattle.hound_commands.specs.Commands.{failure_of, AnswersSamples}
+use Rattle.hound_commands.specs.Commands.{failure_of, ReportsSamples}
 use Rattle.hound_commands.specs.declared.error.CommandError.{CommandError}
 use Rattle.hound_commands.specs.declared.error.CommandError.TheVariants.{InputOrOutput}
 use Rattle.hound_commands.proofs.showing.show.Goals as goal
@@ -12,9 +12,9 @@ use Rattle.hound_commands.proofs.showing.show.Goals as goal
 -- what was shown, once the result is known
 answered : (s : WavSpecEx) (n : ℕ) (r known : Result (Unit {0}) CommandError) (left old new : Option (List ℕ))
     (first last : List ℕ)
-    → r ≡ known → AnswersSamples s n r left old new first last → AnswersSamples s n known left old new first last
+    → r ≡ known → ReportsSamples s n r left old new first last → ReportsSamples s n known left old new first last
 answered s n r known left old new first last is holds =
-    subst (λ r. AnswersSamples s n r left old new first last) is holds
+    subst (λ r. ReportsSamples s n r left old new first last) is holds
 
 -- all was written, and then flushed
 wrote : {T E : Type 0} (text : List ℕ) (r : Result T E) (x : T) (old mid new : Option (List ℕ)) → r ≡ Ok x

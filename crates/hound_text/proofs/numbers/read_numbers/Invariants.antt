@@ -1,10 +1,10 @@
-use Rattle.hound_text.specs.Text.{Follows, MayRead}
+use Rattle.hound_text.specs.Text.{ReadsOn, MayRead}
 use Rattle.hound_text.proofs.numbers.read_numbers.Given as goal
 
 abbrev pub invariant-loop-count : goal.invariant-loop-count
 invariant-loop-count g l = record {
   room : MayRead (g.R.Read.remaining l.initial.input) (g.R.Read.remaining l.input) l.room;
-  follows : Follows (g.R.Read.remaining l.initial.input) (g.R.Read.remaining l.input) l.place l.numbers.items;
+  follows : ReadsOn (g.R.Read.remaining l.initial.input) (g.R.Read.remaining l.input) l.place l.numbers.items;
 }
 
 -- what may still be read

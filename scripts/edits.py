@@ -1,0 +1,95 @@
+"""The edits of each crate, which are in its file `mutants.edits`: a mutant is a deliberate bug, which the prover has to
+reject, and a twin is a harmless edit of the same place, which it has to accept. Each edit is a paragraph:
+
+    mutant: NAME        (or `twin: NAME`, after the mutant of that name)
+    long: WHY           (of a twin that the short run leaves out, with its mutant)
+    file: PATH          (in the crate)
+    function: NAME      (the one that the prover rejects, where the edit is in none, as in a table that it reads)
+    old: TEXT           (a line that is in the file exactly once)
+    new: TEXT           (what is there instead; such pairs of lines may follow one another)
+
+The name begins with the function or the constant that the edit changes."""
+import dataclasses
+import os
+import re
+
+TOP = os.path.dirname(os.path.dirname(os.path.abspath(__file__)))
+FUNCTION = re.compile(r"^( *)(?:pub(?:\([a-z]+\))? )?(?:const |extern \"C\" )?fn (\w+)", flags=re.M)
+BLOCK = re.compile(r"^(?:impl(?:<[^>]*>)? (?:(\w+)(?:<[^>]*>)? for )?|(?:pub )?trait )(\w+)", flags=re.M)
+
+
+def crates():
+    """The libraries of each crate, lowest first, and whether it is a static library."""
+    with open(os.path.join(TOP, "crates.txt")) as file:
+        lines = re.findall(r"^(\w+)( staticlib)?:(.*)$", file.read(), flags=re.M)
+    return {name: (bool(static), libraries.split()) for name, static, libraries in lines}
+
+
+@dataclasses.dataclass(frozen=True)
+class Edit:
+    """An edit of a crate: its file, what is in there, and the texts that change."""
+
+    crate: str
+    kind: str
+    name: str
+    file: str
+    text: str
+    pairs: tuple
+    function: str  # As the prover names it.
+    is_long: bool
+
+    def apply(self, folder):
+        """Makes the edit in a copy of its crate."""
+        path = os.path.join(folder, self.file)
+        with open(path) as file:
+            text = file.read()
+        for old, new in self.pairs:
+            if text.count(old) != 1:
+                raise ValueError(f"{self.crate}: {self.name}: its text isn't in the file exactly once")
+            text = text.replace(old, new)
+        with open(path, "w") as file:
+            file.write(text)
+
+
+def function_at(text, offset, file):
+    """The function that is at an offset of a text, as the prover names it; none where none is there."""
+    functions = [function for function in FUNCTION.finditer(text) if function.start() < offset]
+    if not functions:
+        return None
+    margin, name = functions[-1].groups()
+    end = re.compile(rf"^{margin}}}", flags=re.M).search(text, functions[-1].end())
+    if not end or end.end() < offset:
+        return None
+    if not margin:
+        module = os.path.basename(file)[: -len(".rt")]
+        return name if module == "lib" else f"{module}::{name}"
+    blocks = BLOCK.findall(text[: functions[-1].start()])
+    of_trait, of_type = blocks[-1] if blocks else ("", "")
+    return f"{of_type}{of_trait.replace('Drop', '')}::{name}" if blocks else None
+
+
+def path_of(crate):
+    return os.path.join(TOP, "crates", crate, "mutants.edits")
+
+
+def edits_of(crate, kind=None):
+    """The edits of a crate, or those of one kind, in the order of its file; none where it has no such file."""
+    if not os.path.exists(path_of(crate)):
+        return []
+    with open(path_of(crate)) as file:
+        paragraphs = file.read().strip().split("\n\n")
+    found = [edit_of(crate, [line.partition(": ")[::2] for line in text.split("\n")]) for text in paragraphs]
+    return [edit for edit in found if kind in (None, edit.kind)]
+
+
+def edit_of(crate, lines):
+    """The edit that the lines of a paragraph describe, each as a word and what follows it."""
+    words = dict(lines)
+    with open(os.path.join(TOP, "crates", crate, words["file"])) as file:
+        text = file.read()
+    texts = {word: [text for other, text in lines if other == word] for word in ("old", "new")}
+    kind = lines[0][0]
+    pairs = tuple(zip(texts["old"], texts["new"], strict=True))
+    last = pairs[-1][0]
+    function = words.get("function") or function_at(text, text.find(last) + len(last), words["file"])
+    return Edit(crate, kind, words[kind], words["file"], text, pairs, function, "long" in words)
