@@ -114,7 +114,7 @@ fn two_blocks_have_the_noise_of_one(rt: HostRuntime) -> Result<(), Fail> {
         2,
         &mut later,
     );
-    assert!(rt; whole[..2] == first && whole[2..] == second);
+    assert_eq!(rt; (&first[..], &second[..]), (&whole[..2], &whole[2..]));
     assert_eq!(rt; later, state);
     Ok(())
 }

@@ -9,12 +9,13 @@ ghost use Rattle.hound.specs.declared.RepairState.TheVariants.{HasChunksAfterDat
 ghost use Rattle.hound_callers.specs.Recording.{IsDoneAgain, IsDoneAgainAfterLoss, IsNoBatch, as_item};
 
 use hound::{
-    Amplitude, Error, Medium, Repair, Sample, Source, WavReader, WavWriter, a_look_finds_what_a_repair_does,
-    a_repair_keeps_stored_samples, a_repair_loses_no_published_sample,
-    a_second_repair_writes_nothing, a_seek_leads_to_its_frame, a_stopped_repair_is_done_again,
-    a_writer_holds_its_calls, an_iterator_gives_what_it_hints, an_ok_flush_is_kept, effects_mend,
-    find_damage, float_to_int, int_to_float, items_are_of_the_file, noise_continues, one_answer,
-    repair, repair_to_end, scaled_integers_come_back, store_with_noise, written_is_read,
+    Amplitude, Error, Medium, Repair, Sample, Source, WavReader, WavWriter,
+    a_look_finds_what_a_repair_does, a_repair_keeps_stored_samples,
+    a_repair_loses_no_published_sample, a_second_repair_writes_nothing, a_seek_leads_to_its_frame,
+    a_stopped_repair_is_done_again, a_writer_holds_its_calls, an_iterator_gives_what_it_hints,
+    an_ok_flush_is_kept, effects_mend, find_damage, float_to_int, int_to_float,
+    items_are_of_the_file, noise_continues, one_answer, repair, repair_to_end,
+    scaled_integers_come_back, store_with_noise, written_is_read,
 };
 use std::alloc::Global;
 use std::{io, result};

@@ -93,7 +93,8 @@ fn a_target_is_flushed_before_it_goes_back_if_it_is_to_be(rt: HostRuntime) -> Re
     let synced = Target::Synced(Durable::new(Journal::new(alloc, Vec::new(alloc))?));
     for (target, wanted) in [(plain, 0), (synced, 3)] {
         let (journal, flushed) = flushed_when_it_goes_back(target)?;
-        assert!(rt; flushed == wanted && journal.bytes_after(alloc, journal.taken())?.as_slice() == b"aXc");
+        let bytes = journal.bytes_after(alloc, journal.taken())?;
+        assert_eq!(rt; (flushed, bytes.as_slice()), (wanted, b"aXc".as_slice()));
     }
     Ok(())
 }
