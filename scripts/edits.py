@@ -15,7 +15,8 @@ import re
 
 TOP = os.path.dirname(os.path.dirname(os.path.abspath(__file__)))
 FUNCTION = re.compile(r"^( *)(?:pub(?:\([a-z]+\))? )?(?:const |extern \"C\" )?fn (\w+)", flags=re.M)
-BLOCK = re.compile(r"^(?:impl(?:<[^>]*>)? (?:(\w+)(?:<[^>]*>)? for )?|(?:pub )?trait )(\w+)", flags=re.M)
+BLOCK = re.compile(r"^(?:pub )?(impl|trait)\b(.*?)(?: where.*)?\{?$", flags=re.M)
+TOKENS = {"&mut": "ref_mut", "&": "ref", "[": "slice"}
 
 
 def crates():
@@ -63,9 +64,27 @@ def function_at(text, offset, file):
     if not margin:
         module = os.path.basename(file)[: -len(".rt")]
         return name if module == "lib" else f"{module}::{name}"
-    blocks = BLOCK.findall(text[: functions[-1].start()])
-    of_trait, of_type = blocks[-1] if blocks else ("", "")
-    return f"{of_type}{of_trait.replace('Drop', '')}::{name}" if blocks else None
+    return f"{block_named(*BLOCK.findall(text[: functions[-1].start()])[-1])}::{name}"
+
+
+def block_named(kind, header):
+    """The name that the prover gives a block by its header, such as `DurableMedium` for `<M> Medium for Durable<M>`."""
+    if kind == "trait":
+        return re.search(r"\w+", header)[0]
+    generics = re.match(r"<((?:[^<>]|<[^<>]*>)*)>", header)
+    of_trait, _, of_type = header[generics.end() if generics else 0 :].rpartition(" for ")
+    unnamed = re.findall(r"'?\b\w+(?=\s*[:,]|$)", generics[1]) if generics else []
+    if of_trait.strip() in ("", "Drop"):
+        return "+".join(words_of(of_type, unnamed))
+    named, _, arguments = of_trait.partition("<")
+    words = [*(words_of(of_type, unnamed) or ["any"]), named.rpartition("::")[2].strip(), *words_of(arguments, unnamed)]
+    return "".join(part[0].upper() + part[1:] for word in words for part in word.split("_"))
+
+
+def words_of(text, unnamed):
+    """The words of a type, as the prover's names have them, without the parameters of its block."""
+    tokens = re.findall(r"&mut\b|&|\[|'?\w+", text)
+    return [TOKENS.get(token, token) for token in tokens if token not in unnamed and token[0] != "'"]
 
 
 def path_of(crate):
