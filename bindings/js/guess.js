@@ -225,19 +225,33 @@ export function formOf(blocks, start, zeros, decode) {
   return { like: best.like, skip: zeros === null ? start : startOf(best.shift, best.like, zeros) };
 }
 
-// What chunks are called that programs write after the sound.
-const CHUNK_NAMES = "LIST id3 ID3 bext iXML cue smpl inst PEAK JUNK _PMX acid cart".split(" ");
+// The names of chunks that programs write after the audio, and in how many bytes at the end of a file they are looked
+// for: more than these name, such as a large iXML or axml chunk, and few enough to be read in an instant.
+const CHUNK_NAMES = ("LIST id3 ID3 bext iXML aXML axml chna ubxt cue smpl inst plst PEAK fact JUNK FLLR PAD filr _PMX acid " +
+  "strc cart levl umid minf elm1 regn ovwf DISP SNDM LGWV afsp r64m link").split(" ");
+export const SEARCHED_LENGTH = 1 << 22;
+
+/** The number that the four bytes of a chunk's name are. */
+const numberOf = (name) => [...name.padEnd(4)].reduceRight((number, letter) => number * 256 + letter.charCodeAt(), 0);
 
 /** The chunks whose last one ends exactly where a file does, of which these are the last bytes: the name of the first
     one, and how many bytes they have; nothing where there are none. */
 export function chunksAtEnd(bytes) {
   const view = new DataView(bytes.buffer, bytes.byteOffset, bytes.length);
-  const nameAt = (place) => String.fromCharCode(...bytes.subarray(place, place + 4)).replace(/ $/, "");
-  const isFirst = (place) => {
-    if (place + 8 > bytes.length || !CHUNK_NAMES.includes(nameAt(place))) return false;
-    const length = view.getUint32(place + 4, true), end = place + 8 + length, next = end + length % 2;
-    return end === bytes.length || next === bytes.length || isFirst(next);
-  };
-  const place = bytes.findIndex((_, i) => isFirst(i));
-  return place < 0 ? null : { name: nameAt(place), length: bytes.length - place };
+  const names = new Map(CHUNK_NAMES.map((name) => [numberOf(name), name]));
+  const letters = new Set(CHUNK_NAMES.map((name) => name.charCodeAt()));
+  // Where what ends there is at the end of the file, or chunks follow up to it.
+  const ends = new Set([bytes.length]);
+  let chunks = null;
+  for (let place = bytes.length - 8; place >= 0; place--) {
+    if (!letters.has(bytes[place])) continue;
+    const name = names.get(view.getUint32(place, true));
+    if (name === undefined) continue;
+    const length = view.getUint32(place + 4, true), end = place + 8 + length;
+    if (end === bytes.length || ends.has(end + length % 2)) {
+      ends.add(place);
+      chunks = { name, length: bytes.length - place };
+    }
+  }
+  return chunks;
 }

@@ -118,7 +118,7 @@ def _source(name: str) -> Any:
 
 class _Seen(NamedTuple):
     """What the header of a file says; and unless it is a pipe or a device, which can be read only once, what is found
-    of it, and the chunks at its end that count as sound."""
+    of it, and the chunks at its end that count as audio."""
 
     info: hound.Info
     found: Optional[hound.Repair] = None
@@ -156,10 +156,10 @@ def _chunks_counted(file: disk.Descriptor, found: CRepair) -> Optional[lost.Chun
 
 def _say_what_is_counted(name: str, chunks: Optional[lost.Chunks]) -> None:
     if chunks:
-        sentence = f"its last {chunks.length} bytes look like a {chunks.name} chunk (a title, markers)"
+        sentence = f"its last {chunks.length} bytes look like a chunk named {chunks.name} (a title, markers)"
         part = shlex.quote(os.path.splitext(name)[0] + ".part.wav")
         leave_out = f"head -c -{chunks.length} {shlex.quote(name)} > {part}"
-        complain(f"{name}: {sentence}, and count as sound: {leave_out} leaves them out")
+        complain(f"{name}: {sentence}, and count as audio: {leave_out} leaves them out")
 
 
 def _info(options: argparse.Namespace) -> int:

@@ -347,8 +347,14 @@ def guess(path: Path, *, rate: int, skip: Optional[int] = None) -> Info:
     return form._replace(sample_rate=rate)
 
 
-# What chunks are called that programs write after the sound.
-_NAMES = [name.encode().ljust(4) for name in "LIST id3 ID3 bext iXML cue smpl inst PEAK JUNK _PMX acid cart".split()]
+# The names of chunks that programs write after the audio, and in how many bytes at the end of a file they are looked for:
+# more than these name, such as a large iXML or axml chunk, and few enough to be read in an instant.
+_NAMES = [
+    name.encode().ljust(4)
+    for name in "LIST id3 ID3 bext iXML aXML axml chna ubxt cue smpl inst plst PEAK fact JUNK FLLR PAD filr _PMX acid strc "
+    "cart levl umid minf elm1 regn ovwf DISP SNDM LGWV afsp r64m link".split()
+]
+_SEARCHED_BYTES = 1 << 22
 
 
 class Chunks(NamedTuple):
@@ -358,18 +364,25 @@ class Chunks(NamedTuple):
     length: int
 
 
+def _places(content: bytes, name: bytes) -> Iterator[int]:
+    place = content.find(name)
+    while place >= 0:
+        yield place
+        place = content.find(name, place + 1)
+
+
 def chunks_at_end(file: disk.Descriptor, data_start: int, length: int) -> Optional[Chunks]:
     """The chunks after this byte whose last one ends exactly where a file of this length does; nothing where there are
     none. A repair of a header that counts no samples takes them for samples."""
-    start = max(length - FRONT_BYTES, data_start)
+    start = max(length - _SEARCHED_BYTES, data_start)
     end = _read(file, max(length - start, 0), start)
-
-    def is_first(place: int) -> bool:
-        if place + 8 > len(end) or end[place : place + 4] not in _NAMES:
-            return False
-        length = int.from_bytes(end[place + 4 : place + 8], "little")
-        after = place + 8 + length
-        return len(end) in (after, after + length % 2) or is_first(after + length % 2)
-
-    place = next(filter(is_first, range(len(end))), None)
-    return None if place is None else Chunks(end[place : place + 4].decode("ascii").strip(), len(end) - place)
+    first, ends = None, {len(end)}  # Where what ends there is at the end of the file, or chunks follow up to it.
+    for place in sorted((place for name in _NAMES for place in _places(end, name)), reverse=True):
+        if place + 8 > len(end):
+            continue
+        count = int.from_bytes(end[place + 4 : place + 8], "little")
+        after = place + 8 + count
+        if after == len(end) or after + count % 2 in ends:
+            first = place
+            ends.add(place)
+    return None if first is None else Chunks(end[first : first + 4].decode("ascii").strip(), len(end) - first)
