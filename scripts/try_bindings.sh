@@ -277,8 +277,12 @@ python_systems() { "$python" bindings/python/tests/test_windows.py && "$python" 
 python_faults() { "$python" bindings/tests/python_faults.py 20 short; }
 parts() { "$python" bindings/tests/parts.py 3 short; }
 followed() { "$python" bindings/tests/follow.py 26 1000; }
-examples() { local name; for name in cat follow record repair; do "$cc" $strict "bindings/c/$name.c" "$library" -o \
-    "$work/$name" || return 1; done; }
+examples() {
+    local name
+    for name in cat follow read record repair; do
+        "$cc" $strict "bindings/c/$name.c" "$library" -o "$work/$name" || return 1
+    done
+}
 rows() { "$python" bindings/tests/rows.py "$work/cat" "$work/record"; }
 cargo_tests() { cargo test -q --offline --manifest-path bindings/hound/Cargo.toml --target-dir "$work/target"; }
 # The first cargo that builds for a target.
@@ -449,7 +453,7 @@ if has "$cc" "the users in C"; then
     is_i386 && check "the header has its layout on i386" on_i386
     check "each call from C" user calls --
     check "hostile files" user hostile 300000 --
-    check "hound_file.h over a file that was opened to append, unknown effects, and without descriptors" user \
+    check "hound_file.h over a file that was opened to append, unknown effects, without descriptors, and as floats" user \
         descriptors "$work/descriptors.wav" --
     check "calls.c finds each wrong library of wrong.c" wrong_libraries
     check "300,000 recordings over a simulated disk, with kills, faults and losses of power" user disk 300000 --
@@ -475,7 +479,7 @@ if has "$cc" "the users in C"; then
     has_flags && check "on x86-64 before v2 the library is compiled from hound_c.c" old_processor
     has cmake "the library in CMake" \
         && check "CMake finds the libraries that it and bindings/c/install.sh installed, and builds the one of a clone" by_cmake
-    check "the examples cat.c, follow.c, record.c and repair.c" examples
+    check "the examples cat.c, follow.c, read.c, record.c and repair.c" examples
 fi
 if has c++ "the headers and hound_c.c in C++"; then
     check "the headers are C++98 and C++17" header_of_cpp

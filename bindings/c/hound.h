@@ -1,5 +1,19 @@
-/* WAV files in the caller's memory: read, written, appended to and repaired by proved code
-   (crates/hound_c of the repository).
+/* WAV files in the caller's memory: read, written, appended to and repaired by proved code (crates/hound_c of the
+   repository). Nothing is allocated, kept or called back, and no call calls the system.
+
+     hound_info_t info;                            // a file of 16 bits that is in memory, read by blocks
+     uint64_t first = 0;
+     int64_t n = hound_info(file, length, &info);
+     for (; n >= 0 && (n = hound_read_i16(file, length, first, block, 512)) > 0; first += n) use(block, n);
+     if (n < 0) puts(hound_error_text(n));
+
+     hound_spec spec = {.sample_rate = 48000, .channels = 1, .bits_per_sample = 16};
+     int64_t used = hound_write_i16(&spec, block, 512, out, capacity);    // its length, or an error below 0
+     if (used >= 0) used = hound_append_i16(out, capacity, used, block, 512);
+
+   hound_file.h reads, records and repairs files at a path; hound_follow.h follows one. This is version 0.2: until 1.0 a
+   minor version may change any declaration, and CHANGELOG.md says which; a patch version changes none. Then compile
+   again with the header of the library: hound_version says which library is linked.
 
    A file is an array of bytes: read by fread, mapped, or still to be written. No call keeps a state,
    allocates, calls the system, aborts or calls back. So each of them may be made from an audio

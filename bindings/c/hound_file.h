@@ -759,6 +759,62 @@ static inline int32_t hound_file_repair(hound_file *file, const char *path, uint
     return code == 1 ? hound_file_repair_by(file, path, O_RDWR, mode, found) : code;
 }
 
+/* Decodes all samples of an open file as floats, block by block: 0 or an error. */
+static inline int32_t hound_file_decode_f32(hound_file *file, const hound_info_t *info, float *samples) {
+    uint8_t bytes[16384];
+    const hound_spec *spec = &info->spec;
+    uint64_t done = 0;
+    while (done < info->samples) {
+        uint64_t left = info->samples - done, most = sizeof bytes / spec->bytes_per_sample;
+        size_t count = (size_t)(left < most ? left : most);
+        int64_t length = hound_file_read_at(file->descriptor, bytes, count * spec->bytes_per_sample,
+                                            info->data_start + done * spec->bytes_per_sample), decoded;
+        if (length < 0) return file->fault = errno, HOUND_NOT_PERFORMED;
+        decoded = spec->sample_format == HOUND_FLOAT
+                      ? hound_decode_f32(spec, bytes, (size_t)length, samples + done, count)
+                      : hound_to_f32(spec, bytes, (size_t)length, samples + done, count);
+        if (decoded < 0) return (int32_t)decoded;
+        if ((uint64_t)decoded < count) return HOUND_TRUNCATED;
+        done += count;
+    }
+    return 0;
+}
+
+/* Finds the samples of an open file, and reads them into new memory. */
+static inline int32_t hound_file_load_f32(hound_file *file, hound_info_t *info, float **samples) {
+    hound_walk walk = HOUND_WALK_BEGIN;
+    uint64_t length;
+    size_t count;
+    int is_regular;
+    int32_t code;
+    while ((code = hound_walk_next(&walk, info)) == 1) hound_file_perform(file, &walk.effect, NULL);
+    if (code < 0) return code;
+    if (hound_file_find(file->descriptor, &length, &is_regular) < 0) return file->fault = errno, HOUND_NOT_PERFORMED;
+    if (info->data_start + (uint64_t)info->samples * info->spec.bytes_per_sample > length) return HOUND_TRUNCATED;
+    count = info->samples;
+    if (count < SIZE_MAX / sizeof **samples) *samples = (float *)malloc((count + 1) * sizeof **samples);
+    if (!*samples) return file->fault = ENOMEM, HOUND_NOT_PERFORMED;
+    return hound_file_decode_f32(file, info, *samples);
+}
+
+/* Reads all samples of the file at a path as floats, with the channels in turn; those of a file of integers have the
+   full scale 1. `info` says their rate, their channels and how many there are. `samples` gets memory that the caller
+   frees, also where there is no sample, or NULL after an error. It locks nothing, and follows no recording: see
+   hound_follow.h. A file that is in memory hound_read_i16 and its like read, without a copy of the file. */
+static inline int32_t hound_file_read_f32(hound_file *file, const char *path, hound_info_t *info, float **samples) {
+    int32_t code = HOUND_NOT_PERFORMED;
+    memset(file, 0, sizeof *file);
+    *samples = NULL, file->kind = HOUND_KIND_UNKNOWN;
+    file->descriptor = hound_file_open_at(path, O_RDONLY);
+    if (file->descriptor < 0) return file->fault = errno, code;
+    code = hound_file_load_f32(file, info, samples);
+    if (code < 0) {
+        hound_file_look(file), free(*samples);
+        *samples = NULL;
+    }
+    return hound_file_give_up(file, path, 0, code);
+}
+
 /* Reads so many bytes of standard input, a pipe or a terminal. Where these are fewer `fault` is 0 at the end, and else
    the errno. */
 static inline size_t hound_file_take(int descriptor, uint8_t *out, size_t count, int *fault) {

@@ -226,7 +226,7 @@ export function formOf(blocks, start, zeros, decode) {
 }
 
 // The names of chunks that programs write after the audio, and in how many bytes at the end of a file they are looked
-// for: more than these name, such as a large iXML or axml chunk, and few enough to be read in an instant.
+// for: enough for a large iXML or axml chunk, and few enough to be read in an instant.
 const CHUNK_NAMES = ("LIST id3 ID3 bext iXML aXML axml chna ubxt cue smpl inst plst PEAK fact JUNK FLLR PAD filr _PMX acid " +
   "strc cart levl umid minf elm1 regn ovwf DISP SNDM LGWV afsp r64m link").split(" ");
 export const SEARCHED_LENGTH = 1 << 22;

@@ -347,12 +347,12 @@ def guess(path: Path, *, rate: int, skip: Optional[int] = None) -> Info:
     return form._replace(sample_rate=rate)
 
 
-# The names of chunks that programs write after the audio, and in how many bytes at the end of a file they are looked for:
-# more than these name, such as a large iXML or axml chunk, and few enough to be read in an instant.
+# The names of chunks that programs write after the audio, and in how many bytes at the end of a file they are looked
+# for: enough for a large iXML or axml chunk, and few enough to be read in an instant.
 _NAMES = [
     name.encode().ljust(4)
-    for name in "LIST id3 ID3 bext iXML aXML axml chna ubxt cue smpl inst plst PEAK fact JUNK FLLR PAD filr _PMX acid strc "
-    "cart levl umid minf elm1 regn ovwf DISP SNDM LGWV afsp r64m link".split()
+    for name in "LIST id3 ID3 bext iXML aXML axml chna ubxt cue smpl inst plst PEAK fact JUNK FLLR PAD filr _PMX acid "
+    "strc cart levl umid minf elm1 regn ovwf DISP SNDM LGWV afsp r64m link".split()
 ]
 _SEARCHED_BYTES = 1 << 22
 
