@@ -28,7 +28,7 @@ LIBRARY = r"crates/hound(_number|_spec|_sample|_medium|_durable|_walk|_reader|_w
 FOREIGN = set(
     "ReadExt WriteExt x86-64 MutRef MutRefTo crates/mine crates/mine/src/main.rt _cut iter_next iter_size_hint "
     "update_header read_append write_headers write_u16_le_unchecked ChunkHeader ChunkKind FmtKind read_4_bytes "
-    "read_chunk_header read_le_i16 write_le_i16 Mode decode_scaled encode_scaled header_to".split()
+    "read_chunk_header read_le_i16 write_le_i16 Mode decode_scaled encode_scaled header_to drwav".split()
 )
 
 
