@@ -21,7 +21,7 @@ The status is 0 if all files could be read or repaired, 1 if one couldn't, and 2
 const number = (n) => n.toLocaleString("en");
 const counted = (n, what) => `${number(n)} ${what}${n === 1 ? "" : "s"}`;
 const STATES = {
-  whole: "whole", cutOff: "cut off", hasChunksAfterData: "chunks or a tag follow the sound", allCounted: "whole",
+  whole: "whole", cutOff: "cut off", hasChunksAfterData: "chunks or a tag follow the audio", allCounted: "whole",
 };
 
 function specText({ sampleRate, channels, bitsPerSample, isFloat }) {

@@ -21,9 +21,9 @@ const HIGHEST = 16, SPARE = 1.9175;
 // where the one before that helps more than SOME: else the samples of a channel are of two, by turns.
 const TURNS = 1 / 3, LITTLE = 0.06, SOME = 0.1;
 // Channels are one if the sample before, of another one, helps each by more bits than HELP. A lowest byte that needs
-// more bits than LITTLE_BYTE is a part of the sound.
+// more bits than LITTLE_BYTE is a part of the audio.
 const HELP = 0.1, LITTLE_BYTE = 4;
-// Which share of floats has a size as those of sound, as far as they aren't 0.
+// Which share of floats has a magnitude such as audio has, as far as they aren't 0.
 const USUAL = 0.95, SMALLEST = 1e-8, LARGEST = 2, CLIP = 1 << 17;
 
 /** Where the blocks of a file begin whose samples begin at a byte. */
@@ -176,7 +176,7 @@ function areOne(heard) {
   return channels > 1 && Math.min(...helps) > HELP * heard.length;
 }
 
-/** Whether nearly all floats that aren't 0 have a size as those of sound. */
+/** Whether nearly all floats that aren't 0 have a magnitude such as audio has. */
 function areUsual(blocks) {
   const sizes = blocks.flatMap((block) => [...block]).filter((one) => one !== 0).map(Math.abs);
   const usual = sizes.filter((size) => SMALLEST < size && size <= LARGEST);
@@ -191,7 +191,7 @@ function highestOf(samples, { bitsPerSample, isFloat }) {
 }
 
 /** Where samples of this form begin, if one begins so many bytes after a header of the usual length: after the longest
-    header that such files have, and that the zeros at the front have room for. */
+    header that such files have, and that fits into the zeros at the front. */
 function startOf(shift, { bytesPerSample, channels }, zeros) {
   const place = USUAL_START + shift, isOne = (start) => start <= zeros && (start - place) % bytesPerSample === 0;
   return (bytesPerSample > 2 || channels > 2 ? LONGER_STARTS.find(isOne) : undefined) ?? place;

@@ -593,7 +593,7 @@ test("the command says what files are, and repairs them", async () => {
   assert.deepEqual(run("repair", other, cut), repaired);
   assert.deepEqual(run("info", cut), [0, `${cut}: whole, 4 frames (0.001 s), 1 byte left over, ${spec}`, ""]);
   await fs.writeFile(cut, Buffer.concat([fileOf([block(1)]), Buffer.from("LIST\x04\0\0\0INFO", "latin1")]));
-  assert.equal(run("repair", cut)[1], `${cut}: found chunks or a tag follow the sound, 3 frames (0.000 s), ${spec}`);
+  assert.equal(run("repair", cut)[1], `${cut}: found chunks or a tag follow the audio, 3 frames (0.000 s), ${spec}`);
   const toEnd = `${cut}: found cut off, 6 frames (0.001 s), of which the header counted 3, ${spec}`;
   assert.equal(run("repair", "--to-end", cut)[1], toEnd);
   await fs.truncate(cut, 52);

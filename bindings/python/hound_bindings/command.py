@@ -148,7 +148,7 @@ def _said_of(info: hound.Info, found: Optional[hound.Repair]) -> str:
 
 
 def _chunks_counted(file: disk.Descriptor, found: CRepair) -> Optional[lost.Chunks]:
-    """The chunks that seem to end a file, and that a repair takes for sound since the header counts none or too few."""
+    """The chunks that seem to end a file, and that a repair takes for audio since the header counts none or too few."""
     if found.state != hound.State.CUT_OFF:
         return None
     return lost.chunks_at_end(file, found.data_start, found.length)
@@ -623,9 +623,9 @@ def _parser() -> argparse.ArgumentParser:
     add("--overwrite", help="replace OUT if it is there", **flag)
     add("--durable", help="sync what is written", **flag)
 
-    add = command("join", _join, "write the samples of a recording in parts to one new file")
+    add = command("join", _join, "write the samples of a split recording to one new file")
     words = (
-        "its first part, beside which the others are found, or all of them, in any order: whole files of the same rate, "
+        "its first part, next to which the others are found, or all of them, in any order: whole files of the same rate, "
         "channels and bits; without -o the last name is OUT"
     )
     add("files", nargs="+", metavar="IN", type=_file, help=words)
@@ -658,7 +658,7 @@ def _parser() -> argparse.ArgumentParser:
     add("--checkpoint", type=_seconds, default=1.0, metavar="SECONDS", help="make one so often (1)")
     words = (
         "continue in NAME-002.wav, NAME-003.wav and so on, which mustn't be there, after so many frames, or as much as "
-        "2GiB, 600MiB, 1h, 10min or 30s; without it a new recording does so where a file has no more room (4 GiB)"
+        "2GiB, 600MiB, 1h, 10min or 30s; without it a new recording does so where a file is full (4 GiB)"
     )
     add("--split", type=_split, metavar="LENGTH", help=words)
     words = "give each file a chunk NAME before its samples, such as bext, with what FILE holds; may be repeated"

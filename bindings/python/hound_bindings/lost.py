@@ -243,7 +243,7 @@ def _decoded(block: bytes, form: Info) -> "array.array[Any]":
 
 
 def _are_usual(blocks: List["array.array[Any]"]) -> bool:
-    """Whether nearly all floats that aren't 0 have a size as those of sound."""
+    """Whether nearly all floats that aren't 0 have a magnitude such as audio has."""
     sizes = [abs(sample) for block in blocks for sample in block if sample != 0]
     usual = len([size for size in sizes if _SMALLEST < size <= _LARGEST])
     return usual > 0 and usual >= _USUAL * len(sizes)
@@ -259,7 +259,7 @@ def _highest_of(samples: "array.array[Any]", bits: int, is_float: bool) -> List[
 
 def _start_of_form(form: Info, zeros: int) -> int:
     """Where samples of this form begin, if one begins so many bytes after a header of the usual length: after the
-    longest header that such files have, and that the zeros at the front have room for."""
+    longest header that such files have, and that fits into the zeros at the front."""
     place, width = USUAL_START + form.data_start, form.bits_per_sample // 8
     longer = (start for start in _LONGER_STARTS if start <= zeros and (start - place) % width == 0)
     return next(longer, place) if width > 2 or form.channels > 2 else place
@@ -333,7 +333,7 @@ def guess(path: Path, *, rate: int, skip: Optional[int] = None) -> Info:
     """Guesses what the samples of a file are whose header is lost: 8, 16, 24 or 32 bits, or floats, of one to eight
     channels, by which form makes them most predictable; and where they begin, as its `data_start`. It may be wrong, so
     listen to what `repair(path, like=guess(path, rate=48000))` makes of it. The rate can't be guessed: with a wrong one
-    the sound is too fast or too slow. The samples begin at byte `skip`; without it after what looks like the header of
+    the audio is too fast or too slow. The samples begin at byte `skip`; without it after what looks like the header of
     the data, or else near the end of a header of the usual length. What isn't predictable, as silence and noise, is a
     ValueError."""
     front = _front_of(path)
