@@ -1276,7 +1276,7 @@ class Command(Folder):
         self.assertEqual(self.said, b"hound-wav: none.wav: nothing new is counted\n")
 
     def test_help(self):
-        self.assertIn(b"status 0", self.run_command("--help"))
+        self.assertIn(b"The status is 0", self.run_command("--help"))
         for name in "info", "repair", "cat", "convert", "join", "record":
             self.assertIn(b"usage: hound-wav " + name.encode(), self.run_command(name, "--help"))
         said = b" ".join(self.run_command("cat", "--help").split())
