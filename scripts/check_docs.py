@@ -3,9 +3,9 @@
 
 usage: scripts/check_docs.py
 
-It looks at links, and at what is between backticks and is one name or path: a name has to be in the
-crates' sources or in a script, a path has to be a file of the repository or of a crate. Names of
-others are listed below. It also looks that
+It looks at links, their headings included, and at what is between backticks and is one name or path: a name has to be
+in the crates' sources or in a script, a path has to be a file of the repository or of a crate. Names of others are
+listed below. It also looks that
 - each word of specs/ that a contract of a public function uses has a comment where it is defined;
 - each contract that docs/PROVING.md quotes is in the code;
 - the first example of docs/USING.md's "Record and read", the lines that it says pass, and each example of a
@@ -31,7 +31,7 @@ LIBRARY = r"crates/hound(_number|_spec|_sample|_medium|_durable|_walk|_reader|_w
 FOREIGN = set(
     "ReadExt WriteExt x86-64 MutRef MutRefTo crates/mine crates/mine/src/main.rt _cut iter_next iter_size_hint "
     "update_header read_append write_headers write_u16_le_unchecked ChunkHeader ChunkKind FmtKind read_4_bytes "
-    "read_chunk_header read_le_i16 write_le_i16 Mode decode_scaled encode_scaled header_to".split()
+    "read_chunk_header read_le_i16 write_le_i16 Mode decode_scaled encode_scaled header_to drwav".split()
 )
 
 
@@ -110,6 +110,22 @@ def without_comment():
     words = [os.path.join(TOP, "scripts", "definitions.py"), "--check"]
     lines = subprocess.run(words, capture_output=True, text=True).stderr.split("\n")
     return {re.search(r": (\S+) has no comment", line).group(1) for line in lines if line}
+
+
+def wrong_links(pages):
+    """Links of pages to a file, or to a heading, that isn't there."""
+    for page in pages:
+        for path, heading in re.findall(r"\]\(([^)#:]*)#?([^):]*)\)", re.sub(r"```.*?```", "", read(page), flags=re.S)):
+            target = os.path.normpath(os.path.join(os.path.dirname(page), path)) if path else page
+            if not os.path.exists(os.path.join(TOP, target)):
+                yield page, path
+            elif heading and heading not in map(anchor, re.findall(r"^#+ (.*)$", read(target), flags=re.M)):
+                yield page, f"{path}#{heading}"
+
+
+def anchor(heading):
+    """What a link to a heading has after the #."""
+    return re.sub(r"[^\w -]", "", heading.lower()).replace(" ", "-")
 
 
 def squeezed(text):
@@ -225,9 +241,6 @@ def main():
     for page in PAGES:
         with open(os.path.join(TOP, page)) as file:
             text = re.sub(r"```.*?```", "", file.read(), flags=re.S)
-        for target in re.findall(r"\]\(([^)#:]+)\)", text):
-            if not os.path.exists(os.path.join(TOP, os.path.dirname(page), target)):
-                missing.append((page, target))
         for quoted in re.findall(r"`([^`\n]+)`", text):
             if quoted in FOREIGN or re.fullmatch(r"\.\w+|.*/out", quoted) or os.path.exists(os.path.join(TOP, quoted)):
                 continue
@@ -245,6 +258,7 @@ def main():
     missing += [("specs/, with a comment", word) for word in sorted(public_words(paths) & without_comment())]
     missing += [("docs/PROVING.md, in the code", part) for part in unquoted(paths)]
     missing += [(f"{page}, in a test", part) for page, part in untested(paths)]
+    missing += wrong_links([*PAGES, *sorted(glob.glob("bindings/*/*.md", root_dir=TOP)), "scripts/README.md"])
     missing += misfits()
     missing += misnamed()
     missing += repeated()

@@ -1,12 +1,14 @@
 #!/usr/bin/env python3
-"""Looks that README, docs/ and the comments of the crates below say things in plain words: it lists
-each use of a word from the left column of the glossary, and ends with status 1 if there is one.
+"""Looks that README, docs/, the packages and the comments of the crates below say things in plain words: it lists each
+use of a word from the left column of the glossary, and ends with status 1 if there is one. The second glossary is for
+pages and packages alone.
 
 usage: scripts/check_words.py [CRATE...]    (with crates: the comments of these alone)
 
 Quoted code, names between backticks and block quotes are left out. The words of the specification
 (`tells`, `keeps`, `go`, `shift`, `get`, `put`, `most`, `fail`, `taken`, `accepted`, `counts`,
 `moment`) are names: between backticks they are no finding. Further exceptions are named below."""
+import glob
 import os
 import re
 import sys
@@ -38,8 +40,22 @@ GLOSSARY = [
     (r"want of memory", "out of memory"),
     (r"foreign", "another program's"),
 ]
-GROUPS = [f"(?P<w{i}>{pattern})" for i, (pattern, _) in enumerate(GLOSSARY)]
-PATTERN = re.compile(r"\b(" + "|".join(GROUPS) + r")\b", re.I)
+TERMS = [
+    (r"in the place of", "instead of"),
+    (r"(floats|integers|doubles) of (8|16|24|32|64) bits", "32-bit floats, .."),
+    (r"loss(es)? of power", "power failure"),
+    (r"(a|the|each|after) kill|kills,", "the process is killed, a killed process"),
+    (r"(no|no more|is|has|have|this|a) room|room (for|of)", "space, buffer; fits"),
+    (r"(the|your|its|older|counts as) sound", "audio"),
+    (r"beside", "compared with, next to, besides, while"),
+    (r"recordings? in parts", "split recording"),
+    (r", as (Microsoft|one of)", ", such as"),
+]
+
+
+def pattern_of(glossary):
+    groups = [f"(?P<w{i}>{pattern})" for i, (pattern, _) in enumerate(glossary)]
+    return re.compile(r"\b(" + "|".join(groups) + r")\b", re.I)
 
 # What may be said: in which file (a part of its path), and what the line has there.
 EXCEPTIONS = [
@@ -51,6 +67,10 @@ EXCEPTIONS = [
     ("docs/", "waits for it"),  # of a call that waits for a disk
     ("docs/", "waits for the disk"),
     ("docs/USING.md", "is what `main`"),
+    ("bindings/hound/README.md", "## Recordings that survive a loss of power"),  # to which the sources link
+    ("bindings/hound/README.md", "## Recordings in parts"),
+    ("", "floats of 64 bits"),  # what a file is called in errors, of all packages alike
+    ("", "integers of 64 bits"),
 ]
 
 # The crates whose comments are looked at.
@@ -58,11 +78,22 @@ with open(os.path.join(TOP, "crates.txt")) as crates:
     CRATES = re.findall(r"^(\w+)[^:#\n]*:", crates.read(), flags=re.M)
 
 
-def pages():
-    yield "README.md"
-    for name in sorted(os.listdir(os.path.join(TOP, "docs"))):
-        if name.endswith(".md"):
-            yield "docs/" + name
+# What is read for the terms alone: the packages' pages, and files of which most lines are comments or texts. hound.js,
+# its declarations and the Rust sources aren't among them yet.
+PACKAGES = [
+    "CHANGELOG.md", "scripts/README.md", "bindings/*/*.md", "bindings/c/[!_]*.h", "bindings/c/[bcfr]*.c",
+    "bindings/python/hound_bindings/*.py", "bindings/js/command.js", "bindings/js/guess.js",
+]  # fmt: skip
+
+
+def files_of(*forms):
+    return sorted(path for form in forms for path in glob.glob(form, root_dir=TOP))
+
+
+def without_made(text):
+    """A text without the tables that scripts/make_words.py makes of the crates' comments."""
+    made = r"(?s)<!-- made by scripts/make_words.py.*?<!-- the end of what it makes -->"
+    return re.sub(made, lambda found: "\n" * found[0].count("\n"), text)
 
 
 def prose_of_page(text):
@@ -85,22 +116,26 @@ def comments(text, mark):
         yield re.sub(r"`[^`]*`", "`", found.group(0)) if found else ""
 
 
-def findings(path, lines):
+def findings(path, lines, glossary):
+    pattern = pattern_of(glossary)
     for number, line in enumerate(lines, 1):
-        for found in PATTERN.finditer(line):
+        for found in pattern.finditer(line):
             if any(part in path and said in line for part, said in EXCEPTIONS):
                 continue
-            index = next(i for i in range(len(GLOSSARY)) if found.group(f"w{i}") is not None)
-            yield f"{path}:{number}: '{found.group(0)}': {GLOSSARY[index][1]}\n    {line.strip()}"
+            index = next(i for i in range(len(glossary)) if found.group(f"w{i}") is not None)
+            yield f"{path}:{number}: '{found.group(0)}': {glossary[index][1]}\n    {line.strip()}"
 
 
 def main():
     crates = sys.argv[1:] or CRATES
     listed = []
     if not sys.argv[1:]:
-        for page in pages():
+        for page in files_of("README.md", "docs/*.md"):
             with open(os.path.join(TOP, page)) as file:
-                listed += findings(page, prose_of_page(file.read()))
+                listed += findings(page, prose_of_page(without_made(file.read())), GLOSSARY + TERMS)
+        for path in files_of(*PACKAGES):
+            with open(os.path.join(TOP, path)) as file:
+                listed += findings(path, file.read().split("\n"), TERMS)
     for crate in crates:
         for folder, folders, files in os.walk(os.path.join(TOP, "crates", crate)):
             folders[:] = sorted(name for name in folders if name not in ("out", "target"))
@@ -109,12 +144,12 @@ def main():
                     path = os.path.join(folder, name)
                     with open(path) as file:
                         mark = "//[/!]?" if name.endswith(".rt") else "--"
-                        listed += findings(os.path.relpath(path, TOP), comments(file.read(), mark))
+                        listed += findings(os.path.relpath(path, TOP), comments(file.read(), mark), GLOSSARY)
     for one in listed:
         print(one, file=sys.stderr)
     if listed:
         sys.exit(f"words: {len(listed)} uses of words that the glossary replaces")
-    print(f"words: README, docs/ and the comments of {len(CRATES)} crates are in plain words")
+    print(f"words: README, docs/, the packages and the comments of {len(CRATES)} crates are in plain words")
 
 
 main()

@@ -300,7 +300,8 @@ def unused():
     for place, form, names in USES:
         paths = [place]
         if os.path.isdir(os.path.join(TOP, place)):
-            paths = [os.path.join(place, name) for name in os.listdir(os.path.join(TOP, place)) if "." in name]
+            names_there = os.listdir(os.path.join(TOP, place))
+            paths = [os.path.join(place, name) for name in names_there if "." in name and not name.endswith(".wasm")]
         code = "".join(made.sub("", read(path)) for path in paths)
         yield from (f"{name} ({place})" for name in names if not re.search(form.format(name), code))
 

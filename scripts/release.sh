@@ -157,7 +157,7 @@ c_by_a_line() {
     "$cc" -O3 -c bindings/c/hound_c.c
     "$cc" -Ibindings/c tone.c hound_c.o -o tone
     ./tone
-    for program in cat follow record repair; do
+    for program in cat follow read record repair; do
         "$cc" -Ibindings/c "bindings/c/$program.c" "bindings/lib/$(uname -m)-linux/libhound_c.a" -o "$program"
     done
     head -c 4000 /dev/zero | ./record take.wav 48000 2 16 500

@@ -1,9 +1,9 @@
 #!/usr/bin/env bash
 # Tries hound_c from C, Python, Cargo and JavaScript as someone without the Rattle kit does: from a fresh clone, with
 # the libraries of bindings/lib, no `rt` on the path and no network. It looks at their symbols, runs the users of
-# bindings/tests, the tests of the packages, the rows of hound_rows beside their model, and the programs of
-# docs/BINDINGS.md as they are there; on ARM in an emulator, and in WebAssembly. What needs a tool that isn't here is
-# named and passed over. It writes a line for each check, and last 'N of N checks of the bindings'.
+# bindings/tests, the tests of the packages, and the rows of hound_rows compared with their model; on ARM in an
+# emulator, and in WebAssembly. What needs a tool that isn't here is named and passed over. It writes a line for each
+# check, and last 'N of N checks of the bindings'. The programs of the pages are run by scripts/run_docs.py.
 #   scripts/try_bindings.sh     (that bindings/lib is what the proofs give is looked at by scripts/carry.sh --check)
 set -u
 cd "$(dirname "$0")/.."
@@ -242,24 +242,6 @@ four_samples() { printf \
     'RIFF\54\0\0\0WAVEfmt \20\0\0\0\1\0\2\0\200\273\0\0\0\356\2\0\4\0\20\0data\10\0\0\0\2\0\375\377\5\0\371\377' > \
     "$work/four.wav"; }
 four_samples
-# What the program that meters a take prints of four samples, of which -7 is the loudest: 20 log10(7 / 2^23) is -121.6.
-metered="-121.6 dB
-at most 0.000; the recorder left 0 frames uncounted"
-page_of_python() {
-    page python > "$work/page.py" && (cd "$work" && "$python" page.py) || return 1
-    page python docs/BINDINGS.md "### Chunks before the sound" > "$work/bext.py" \
-        && (cd "$work" && "$python" bext.py && tail -c +69 take.wav | grep -aq '^.*Scene 12') || return 1
-    page python docs/BINDINGS.md "## Follow a recording" > "$work/meter.py" \
-        && [ "$(cd "$work" && "$python" meter.py)" = "$metered" ] || return 1
-    page python README.md > "$work/readme.py" && rm -f "$work/take.wav" \
-        && (cd "$work" && [ "$("$python" readme.py)" = "array('h', [2, -3, 5, -7])" ]) \
-        && cmp "$work/take.wav" "$work/four.wav"
-}
-page_of_rust() {
-    export CARGO_HOME=$work/cargo
-    cargo new -q --vcs none "$work/user" && page rust > "$work/user/src/main.rs" && cd "$work/user" \
-        && $offline cargo add -q --git "file://$top" hound && $offline cargo run -q
-}
 python_installed() {
     [ ! -e "${library%a}so" ] || export CC=none # and no compiler
     "$(python_with_numpy)" -m venv --system-site-packages "$work/venv" \
@@ -277,8 +259,12 @@ python_systems() { "$python" bindings/python/tests/test_windows.py && "$python" 
 python_faults() { "$python" bindings/tests/python_faults.py 20 short; }
 parts() { "$python" bindings/tests/parts.py 3 short; }
 followed() { "$python" bindings/tests/follow.py 26 1000; }
-examples() { local name; for name in cat follow record repair; do "$cc" $strict "bindings/c/$name.c" "$library" -o \
-    "$work/$name" || return 1; done; }
+examples() {
+    local name
+    for name in cat follow read record repair; do
+        "$cc" $strict "bindings/c/$name.c" "$library" -o "$work/$name" || return 1
+    done
+}
 rows() { "$python" bindings/tests/rows.py "$work/cat" "$work/record"; }
 cargo_tests() { cargo test -q --offline --manifest-path bindings/hound/Cargo.toml --target-dir "$work/target"; }
 # The first cargo that builds for a target.
@@ -411,7 +397,6 @@ js_bundled() { # for browsers: with nothing of Node, and with hound_c32.wasm bes
                 "$PWD/bundle/$format.mjs" || return 1
     done; done
 }
-page_of_js() { page js > "$work/js/page.mjs" && cd "$work/js" && node page.mjs; }
 # The answers of this processor's library, which rows.py compares with the model; and whether another's are the same.
 answers() {
     python3 bindings/tests/requests.py > "$work/requests" && user answer -- < "$work/requests" > "$work/answers" \
@@ -449,7 +434,7 @@ if has "$cc" "the users in C"; then
     is_i386 && check "the header has its layout on i386" on_i386
     check "each call from C" user calls --
     check "hostile files" user hostile 300000 --
-    check "hound_file.h over a file that was opened to append, unknown effects, and without descriptors" user \
+    check "hound_file.h over a file that was opened to append, unknown effects, without descriptors, and as floats" user \
         descriptors "$work/descriptors.wav" --
     check "calls.c finds each wrong library of wrong.c" wrong_libraries
     check "300,000 recordings over a simulated disk, with kills, faults and losses of power" user disk 300000 --
@@ -470,12 +455,11 @@ if has "$cc" "the users in C"; then
         echo "bindings: passed over, since $cc has no sanitizers here: the users in C with them"
     fi
     check "the installed library and its shared form, moved and removed" installed "$work/prefix"
-    check "the C program of docs/BINDINGS.md" page_of_c
     check "the library that is installed from hound_c.c, and the C program with that file" by_source
     has_flags && check "on x86-64 before v2 the library is compiled from hound_c.c" old_processor
     has cmake "the library in CMake" \
         && check "CMake finds the libraries that it and bindings/c/install.sh installed, and builds the one of a clone" by_cmake
-    check "the examples cat.c, follow.c, record.c and repair.c" examples
+    check "the examples cat.c, follow.c, read.c, record.c and repair.c" examples
 fi
 if has c++ "the headers and hound_c.c in C++"; then
     check "the headers are C++98 and C++17" header_of_cpp
@@ -501,7 +485,6 @@ if has python3 "the Python package" && has "$cc" "the Python package"; then
         check "killed recordings in parts, by hound-wav, Python, C, Node and Cargo" parts
         check "killed recordings that are followed meanwhile, by C, Python, hound-wav, Node and Cargo, and wrong followers" followed
         check "files of hound_rows, cut files and each code, beside the model, through cat.c and by record.c" rows
-        check "the Python program of docs/BINDINGS.md" page_of_python
     else
         echo "bindings: passed over, since this Python has no ensurepip: pip"
         check "files of hound_rows, cut files and each code, beside the model, through cat.c and by record.c" quick_rows
@@ -542,7 +525,6 @@ if has cargo "the Cargo package hound"; then
     fi
     check "a program written for hound, which adds that package from a clone" user_of_hound
     check "the same after cargo vendor" vendored
-    check "the Rust program of docs/BINDINGS.md, which adds it from a clone" page_of_rust
 fi
 has python3 "that hound.html is made" \
     && check "hound.html is what its script makes of the package and the module" bindings/js/page/make.py --check
@@ -555,7 +537,6 @@ else
         && check "the declarations of the JavaScript package, by tsc" js_types
     if has npm "npm pack"; then
         check "npm installs the packed JavaScript package, with its command, for import and require" js_packed
-        check "the JavaScript program of docs/BINDINGS.md, from the packed package" page_of_js
         check "npm links a folder, which has all that a server needs" js_linked
         has esbuild "the JavaScript package in a bundle" \
             && check "esbuild bundles the packed package and the linked folder for browsers" js_bundled

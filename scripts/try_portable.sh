@@ -26,8 +26,9 @@ gcc $flags -O1 $tests/answer.c "$library" -o "$work/native" && "$work/native" < 
 gcc $flags -I$tests/board -O1 $tests/board/board.c "$library" -o "$work/native" \
     && "$work/native" > "$work/board.here" || { cat "$work/board.here"; exit 1; }
 mkdir "$work/here"
-for program in cat follow record repair; do gcc $flags -O1 "bindings/c/$program.c" "$library" -o "$work/here/$program" \
-    || exit 1; done
+for program in cat follow read record repair; do
+    gcc $flags -O1 "bindings/c/$program.c" "$library" -o "$work/here/$program" || exit 1
+done
 
 say() { echo "portable: $*"; }
 is_here() { [ -z "$1" ] || command -v "${1%% *}" > /dev/null; }
@@ -60,7 +61,7 @@ programs() { # NAME RUN COMPILER..
     local name=$1 run=$2 program
     shift 2
     mkdir "$work/$name"
-    for program in cat follow record repair; do
+    for program in cat follow read record repair; do
         "$@" -std=gnu99 -pedantic $flags "bindings/c/$program.c" "$work/$name.o" -o "$work/$name/$program.exe" > \
             "$work/log" 2>&1 \
             || { echo "$program.c doesn't compile: $(head -n 1 "$work/log")"; return 1; }
@@ -266,12 +267,12 @@ if [ ${#only[@]} -eq 0 ]; then
     compiled x86_64-pc-windows-msvc hound_c -- -isystem "$work/declared"
     mingw=/usr/x86_64-w64-mingw32/include musl=/usr/include/x86_64-linux-musl
     if has_headers $mingw mingw-w64-x86-64-dev Windows; then
-        compiled x86_64-pc-windows-msvc cat follow record repair -- -isystem $mingw -U_MSC_VER -D__GNUC__=4 \
+        compiled x86_64-pc-windows-msvc cat follow read record repair -- -isystem $mingw -U_MSC_VER -D__GNUC__=4 \
             -D__MINGW32__ -D__MINGW64__
     fi
     if has_headers $musl musl-dev "macOS and FreeBSD"; then
-        compiled arm64-apple-macos cat follow record repair -- -isystem $musl -DF_FULLFSYNC=51
-        compiled x86_64-unknown-freebsd cat follow record repair -- -isystem $musl
+        compiled arm64-apple-macos cat follow read record repair -- -isystem $musl -DF_FULLFSYNC=51
+        compiled x86_64-unknown-freebsd cat follow read record repair -- -isystem $musl
     fi
     rejected "compile it without -ffast-math" gcc -ffast-math
     rejected "needs floats as they are stored" gcc -m32 -mno-sse -mfpmath=387

@@ -59,7 +59,7 @@ static int32_t write_block(FIL *file, hound_recorder *recorder, const uint8_t *b
     return code < 0 ? code : finish(file, recorder, block);
 }
 
-/* From here on all samples survive a loss of power. */
+/* From here on all samples survive a power failure. */
 static int32_t make_checkpoint(FIL *file, hound_recorder *recorder) {
     hound_recorder_checkpoint(recorder);
     return finish(file, recorder, (const uint8_t *)"");

@@ -1,5 +1,19 @@
-/* WAV files in the caller's memory: read, written, appended to and repaired by proved code
-   (crates/hound_c of the repository).
+/* WAV files in the caller's memory: read, written, appended to and repaired by proved code (crates/hound_c of the
+   repository). Nothing is allocated, kept or called back, and no call calls the system.
+
+     hound_info_t info;                            // a file of 16 bits that is in memory, read by blocks
+     uint64_t first = 0;
+     int64_t n = hound_info(file, length, &info);
+     for (; n >= 0 && (n = hound_read_i16(file, length, first, block, 512)) > 0; first += n) use(block, n);
+     if (n < 0) puts(hound_error_text(n));
+
+     hound_spec spec = {.sample_rate = 48000, .channels = 1, .bits_per_sample = 16};
+     int64_t used = hound_write_i16(&spec, block, 512, out, capacity);    // its length, or an error below 0
+     if (used >= 0) used = hound_append_i16(out, capacity, used, block, 512);
+
+   hound_file.h reads, records and repairs files at a path; hound_follow.h follows one. This is version 0.2: until 1.0 a
+   minor version may change any declaration, and CHANGELOG.md says which; a patch version changes none. Then compile
+   again with the header of the library: hound_version says which library is linked.
 
    A file is an array of bytes: read by fread, mapped, or still to be written. No call keeps a state,
    allocates, calls the system, aborts or calls back. So each of them may be made from an audio
@@ -54,13 +68,10 @@ enum {
     HOUND_UNSUPPORTED = -2,      /* the format tag or subformat is neither PCM nor IEEE float */
     HOUND_OTHER_FORMAT = -3,     /* the samples are floats and the type is an integer, or vice versa */
     HOUND_TOO_WIDE = -4,         /* the samples are wider than the type, or a value than its bits */
-    HOUND_NOT_WRITABLE = -5,     /* no call reads, writes, appends, repairs, encodes, decodes or scales
-                                    samples with these bits and bytes; hound_write_.., hound_size,
-                                    hound_header, hound_beginning and hound_recorder_begin also return it
-                                    where the channels or the rate are 0, or where the bytes of a frame don't
-                                    fit in 16 bits or those of a second in 32; hound_sizes and
-                                    hound_recorder_resume where the channels are 0 or the data begin before
-                                    byte 20 */
+    HOUND_NOT_WRITABLE = -5,     /* unsupported bits or bytes per sample. Calls that make a header also return it
+                                    if there are no channels, if the rate is 0, or if the block align doesn't fit
+                                    in 16 bits or the byte rate in 32; hound_sizes and hound_recorder_resume if
+                                    there are no channels, or the data begin before byte 20 */
     HOUND_TRUNCATED = -6,        /* the header counts a sample that isn't among the bytes of the file */
     HOUND_TOO_LONG = -7,         /* the sizes of the file would not fit in 32 bits */
     HOUND_UNFINISHED_FRAME = -8, /* the samples are no whole frames */
@@ -158,10 +169,11 @@ enum {
     HOUND_WRITE,       /* write the first `length` of `bytes` at `place` */
     HOUND_WRITE_BLOCK, /* write the caller's block, which has `length` bytes, at `place` */
     HOUND_SYNC,        /* sync the file. If that only passes the bytes on to the system, the file has all that comes
-                          before it after a kill; only if it stores them, as fsync does, also after a loss of power */
+                          before it if the process is killed; only if it stores them, as fsync does, also after a
+                          power failure */
     HOUND_SHORTEN,     /* cut the file off at `place`, where it is longer than that */
     HOUND_SYNC_FOLDER  /* sync the folder that holds the file's name, as fsync does. It does nothing where a sync
-                          of the file stores the name, or where a loss of power may take the file */
+                          of the file stores the name, or where a power failure may take the file */
 };
 
 /* How an effect ended. One that was done only in part has failed. */
@@ -193,8 +205,8 @@ typedef struct {
    stays as it is: with the report HOUND_PENDING that part is requested again. */
 int32_t hound_walk_next(hound_walk *walk, hound_info_t *info) HOUND_NONNULL;
 
-/* The same for a stream whose length its writer didn't know, as for one in a pipe: its header may count any length, and
-   `samples` is 0. The samples are all whole frames that follow. */
+/* Like hound_walk_next, for a stream whose writer didn't know its length, such as one that wrote to a pipe: the length
+   in the header is ignored, and `samples` is 0. The samples are all whole frames that follow. */
 int32_t hound_walk_to_end(hound_walk *walk, hound_info_t *info) HOUND_NONNULL;
 
 /* Returns how many bytes the whole frames among the first `length` bytes of a stream's samples have: what is left over
@@ -251,9 +263,9 @@ enum {
     HOUND_KIND_FLOAT64
 };
 
-/* Returns what a file is, by its first bytes, for a sentence about one that isn't read: the format tag of its samples,
-   from 0 to 65535, which is that of the first "fmt " after the twelfth byte, or of its subformat; or one of these
-   kinds. hound_kind_text names it. */
+/* Identifies a file by its first bytes, for an error message about one that can't be read: the format tag of its
+   samples, from 0 to 65535, which is that of the first "fmt " after the twelfth byte, or of its subformat; or one of
+   these kinds. hound_kind_text names it. */
 int32_t hound_kind(const uint8_t *file, size_t length) HOUND_NONNULL;
 
 /* Reads samples from number `first` on, counted from 0, and returns how many: as many as fit, as the
@@ -341,15 +353,15 @@ enum {
 void hound_repairer_begin(uint64_t length, uint32_t mode, hound_repairer *repairer) HOUND_NONNULL;
 
 /* Returns 1 for the next effect; 0 if all are done, and then `found` is what the file was; or an error of
-   hound_repair, or what an effect was reported as, which ends the repairer. What it writes are the sizes and a missing
-   pad byte, in the order in which a kill or a loss of power loses no sample and invents none, and a sync comes
-   between two writes: of all that there is, the RIFF size, the data length, the pad byte. So there are at most seven
+   hound_repair, or what an effect was reported as, which ends the repairer. It writes the sizes and a missing pad
+   byte, in an order in which a killed process or a power failure loses no sample and invents none, with a sync between
+   two writes: first of all that there is, then the RIFF size, the data length, the pad byte. So there are at most seven
    effects that write or sync, and a look at a file reads few parts of it: after each effect that is reported as done
    fewer are left, whatever was read. A part that was read in fewer bytes than the file has of it by its length is
    HOUND_ENDED, because what wasn't read may be a chunk; and so is a part of the header of which more was read, because
    the file has grown. After an error, or where it was stopped, the file can be
    repaired by another repairer. Where nothing is to be written it syncs nothing: so after a repair that was stopped
-   before its last sync, a loss of power may leave the file as it was before that. */
+   before its last sync, a power failure may leave the file as it was before that. */
 int32_t hound_repairer_next(hound_repairer *repairer, hound_repair_t *found) HOUND_NONNULL;
 
 /* Samples without a file around them: containers one after the other, as in the data of a file. They
@@ -463,7 +475,7 @@ enum {
    but for bytes of a torn frame doesn't, either: these are cut off. Where samples are missing that the header counts it
    is HOUND_TRUNCATED; where the header counts more than the whole frames, HOUND_MEND is rejected as
    HOUND_UNFINISHED_FRAME, since a recorder never cuts off what is counted: repair the file first. Where the
-   recording has to survive a loss of power, sync the file before the repairer looks at it, because what it finds may
+   recording has to survive a power failure, sync the file before the repairer looks at it, because what it finds may
    not be stored yet. Returns 0 or an error. */
 int32_t hound_recorder_resume(const hound_repair_t *found, uint32_t allowed, hound_recorder *recorder) HOUND_NONNULL;
 
@@ -475,8 +487,8 @@ int32_t hound_recorder_write(hound_recorder *recorder, uint64_t samples) HOUND_N
 /* Requests a checkpoint of all that is written. */
 void hound_recorder_checkpoint(hound_recorder *recorder) HOUND_NONNULL;
 
-/* Returns how many frames have room after those that are written, so that a program can continue in another file before
-   a block is too long. It is 0 where no more has room, or where no file has such data. */
+/* Returns how many frames fit after those that are written, so that a program can continue in another file before
+   a block is too long. It is 0 where no more fits, or where no file has such data. */
 int64_t hound_recorder_frames_left(const hound_recorder *recorder) HOUND_NONNULL;
 
 /* Returns 1 for the next effect of what was requested, and 0 if all of it is done: after a checkpoint the header counts

@@ -1,21 +1,22 @@
-/* Recordings and repairs of files at a path, over hound.h: what record.c and repair.c share. The library says what is
-   read and written, and this performs it by the calls of POSIX or of Windows. Nothing of it is proved. All functions
-   are static and inline, so nothing else is linked. Include it before the headers of the system, or define
+/* Reads, records and repairs files at a path, over hound.h. The library says what is read and written, and this
+   performs it by the calls of POSIX or of Windows. Nothing of it is proved. All functions are static and inline, so
+   nothing else is linked. Include it before the headers of the system, or define
    _XOPEN_SOURCE as 700 or _DEFAULT_SOURCE, because with -std=c99 the first of them hides what it calls.
 
-     hound_file file;
+     hound_file file;                                                   // record
      int32_t code = hound_file_create(&file, "take.wav", &spec, 0, 0);
      while (code == 0 && ..) {
          int64_t length = hound_encode_i16(&spec, samples, count, bytes, sizeof bytes);
-         code = length < 0 ? (int32_t)length : hound_file_write(&file, bytes, length / 2);
+         code = length < 0 ? (int32_t)length : hound_file_write(&file, bytes, count);
      }
-     if (code == 0) code = hound_file_checkpoint(&file);
      if (code < 0) puts(hound_file_text(&file, code));
-     hound_file_close(&file);
+     if (hound_file_close(&file) < 0 && code == 0) puts("the last checkpoint failed");
+
+     code = hound_file_read_f32(&file, "take.wav", &info, &samples);    // read; then free(samples)
 
    A call returns 0 or an error of hound.h; hound_file_text has its sentence, and hound_file_reason one that names what
    a file is that isn't read. Where the system failed the error isn't 0 and `fault` is the errno. A hound_file is for
-   one thread at a time. Windows syncs no folder: a loss of power there may take the name of a new file. There a path is
+   one thread at a time. Windows syncs no folder: a power failure there may take the name of a new file. There a path is
    UTF-8, too, may be longer than 260, and takes 128 KB of stack.
 
    A descriptor of your own may be in `descriptor`. One that was opened to append (O_APPEND, `>>`) is rejected before
@@ -54,7 +55,7 @@
 
 enum { HOUND_FILE_LETTERS = 32768 }; /* as many as a path has at most */
 
-/* The path for calls of Windows, in this room: with a prefix where it is long. NULL and errno where it is none. */
+/* The path for calls of Windows, in this buffer: with a prefix where it is long. NULL and errno where it is none. */
 static inline const wchar_t *hound_file_wide(const char *path, wchar_t *room) {
     wchar_t given[HOUND_FILE_LETTERS], *full = room + 6;
     DWORD length = 0, most = HOUND_FILE_LETTERS - 6;
@@ -63,7 +64,7 @@ static inline const wchar_t *hound_file_wide(const char *path, wchar_t *room) {
     if (length == 0 || length >= most) return errno = EINVAL, (const wchar_t *)NULL;
     if (length < MAX_PATH || full[2] == L'?' || full[2] == L'.') return full;
     if (full[0] != L'\\') return (const wchar_t *)memcpy(full - 4, L"\\\\?\\", 4 * sizeof *full);
-    return (const wchar_t *)memcpy(full - 6, L"\\\\?\\UNC\\", 8 * sizeof *full); /* in the place of a server's two */
+    return (const wchar_t *)memcpy(full - 6, L"\\\\?\\UNC\\", 8 * sizeof *full); /* instead of a server's two */
 }
 /* The arguments of a program in UTF-8, as a path is; they stay as they are where there is no memory. */
 static inline void hound_file_arguments(int *count, char ***arguments) {
@@ -314,7 +315,7 @@ static inline const char *hound_file_kind_reason(int32_t kind, char *room) {
 }
 
 /* The sentence of hound_file_text after hound_file_append or hound_file_repair, or what the file is that isn't read, in
-   this room of HOUND_FILE_SENTENCE bytes. */
+   this buffer of HOUND_FILE_SENTENCE bytes. */
 static inline const char *hound_file_reason(const hound_file *file, int32_t code, char *room) {
     const char *reason = file->fault == 0 ? hound_file_kind_reason(file->kind, room) : NULL;
     return reason ? reason : hound_file_text(file, code);
@@ -453,7 +454,7 @@ static inline int hound_file_perform_at(hound_file *file, const char *path, houn
     return !file->fault;
 }
 
-/* How many bytes a chunk has at most beside its content. */
+/* How many bytes a chunk has at most in addition to its content. */
 enum { HOUND_FILE_CHUNK_BYTES = 9 };
 
 /* Lays out a chunk: its name of four characters, its length, the content, and a byte of 0 where that is odd. Returns
@@ -498,8 +499,8 @@ static inline int64_t hound_file_header(const hound_spec *spec, const uint8_t *c
 }
 
 /* What hound_beginning returns for a number, which becomes that of the effect after this one. Writes that follow one
-   another are one block, in this room of HOUND_HEADER_BYTES or the header of the file's own: so no kill comes between
-   the two parts of a header. */
+   another are one block, in this buffer of HOUND_HEADER_BYTES or the header of the file's own: so a process can't be
+   killed between the two parts of a header. */
 static inline int32_t hound_file_beginning(const hound_file *file, const hound_spec *spec, uint32_t *number,
                                            hound_effect *effect, uint8_t *room, const uint8_t **block) {
     hound_effect next;
@@ -645,12 +646,12 @@ static inline int hound_file_continues(const hound_spec *spec, const hound_spec 
            && (spec->bytes_per_sample == 0 || held->bytes_per_sample == spec->bytes_per_sample);
 }
 
-/* Continues the recording at a path, whatever a kill or a power failure has left of it. One that was cut off is
-   repaired first, by the first checkpoint; or here, where the header counts more than the file holds, or a part of a
+/* Continues the recording at a path, whatever a killed process or a power failure has left of it. One that was cut off
+   is repaired first, by the first checkpoint; or here, where the header counts more than the file holds, or a part of a
    frame, because a recorder never cuts off what is counted. A new one begins where no file is, or one that holds less
    than the header of a new one, and nothing else. `found` is what was there; in a new file its state is whole, and all
-   else 0. A file of another spec is HOUND_OTHER_FORMAT, and stays as it is. So does one that chunks follow, or whose
-   header is another one and isn't all there. */
+   else 0. A file with another spec is rejected with HOUND_OTHER_FORMAT and not changed; neither is a file with chunks
+   after the data, or with an incomplete header that a new file wouldn't have. */
 static inline int32_t hound_file_continue_with(hound_file *file, const char *path, const hound_spec *spec,
                                                int is_durable, hound_repair_t *found, const uint8_t *header,
                                                uint32_t header_length) {
@@ -701,9 +702,9 @@ static inline int32_t hound_file_close(hound_file *file) {
     return code;
 }
 
-/* The name of a further file of a recording, as take-002.wav is the second one of take.wav, in a room of so many bytes:
-   0, or -1 where it is too small. Whether a file can be made there hound_file_check_new says, before the recording
-   begins. */
+/* The name of a further file of a recording, such as take-002.wav, the second one of take.wav, in a buffer of so many
+   bytes: 0, or -1 where it is too small. Whether a file can be made there hound_file_check_new says, before the
+   recording begins. */
 static inline int hound_file_part(const char *path, unsigned number, char *out, size_t size) {
     const char *name = path, *ending, *at;
     int length;
@@ -715,7 +716,7 @@ static inline int hound_file_part(const char *path, unsigned number, char *out, 
     return length < 0 || (size_t)length >= size ? -1 : 0;
 }
 
-/* How many frames have room in a file that is to have so many at most. Before a block of more call hound_file_next. */
+/* How many frames still fit in a file that is to have so many at most. Before a block of more call hound_file_next. */
 static inline uint64_t hound_file_frames_left(const hound_file *file, uint64_t most) {
     const hound_recorder *recorder = &file->recorder;
     uint64_t frame = (uint64_t)recorder->bytes_per_sample * recorder->channels;
@@ -757,6 +758,62 @@ static inline int32_t hound_file_repair_by(hound_file *file, const char *path, i
 static inline int32_t hound_file_repair(hound_file *file, const char *path, uint32_t mode, hound_repair_t *found) {
     int32_t code = hound_file_repair_by(file, path, O_RDONLY, mode, found);
     return code == 1 ? hound_file_repair_by(file, path, O_RDWR, mode, found) : code;
+}
+
+/* Decodes all samples of an open file as floats, block by block: 0 or an error. */
+static inline int32_t hound_file_decode_f32(hound_file *file, const hound_info_t *info, float *samples) {
+    uint8_t bytes[16384];
+    const hound_spec *spec = &info->spec;
+    uint64_t done = 0;
+    while (done < info->samples) {
+        uint64_t left = info->samples - done, most = sizeof bytes / spec->bytes_per_sample;
+        size_t count = (size_t)(left < most ? left : most);
+        int64_t length = hound_file_read_at(file->descriptor, bytes, count * spec->bytes_per_sample,
+                                            info->data_start + done * spec->bytes_per_sample), decoded;
+        if (length < 0) return file->fault = errno, HOUND_NOT_PERFORMED;
+        decoded = spec->sample_format == HOUND_FLOAT
+                      ? hound_decode_f32(spec, bytes, (size_t)length, samples + done, count)
+                      : hound_to_f32(spec, bytes, (size_t)length, samples + done, count);
+        if (decoded < 0) return (int32_t)decoded;
+        if ((uint64_t)decoded < count) return HOUND_TRUNCATED;
+        done += count;
+    }
+    return 0;
+}
+
+/* Finds the samples of an open file, and reads them into new memory. */
+static inline int32_t hound_file_load_f32(hound_file *file, hound_info_t *info, float **samples) {
+    hound_walk walk = HOUND_WALK_BEGIN;
+    uint64_t length;
+    size_t count;
+    int is_regular;
+    int32_t code;
+    while ((code = hound_walk_next(&walk, info)) == 1) hound_file_perform(file, &walk.effect, NULL);
+    if (code < 0) return code;
+    if (hound_file_find(file->descriptor, &length, &is_regular) < 0) return file->fault = errno, HOUND_NOT_PERFORMED;
+    if (info->data_start + (uint64_t)info->samples * info->spec.bytes_per_sample > length) return HOUND_TRUNCATED;
+    count = info->samples;
+    if (count < SIZE_MAX / sizeof **samples) *samples = (float *)malloc((count + 1) * sizeof **samples);
+    if (!*samples) return file->fault = ENOMEM, HOUND_NOT_PERFORMED;
+    return hound_file_decode_f32(file, info, *samples);
+}
+
+/* Reads all samples of the file at a path as floats, with the channels in turn; those of a file of integers have the
+   full scale 1. `info` says their rate, their channels and how many there are. `samples` gets memory that the caller
+   frees, also where there is no sample, or NULL after an error. It locks nothing, and follows no recording: see
+   hound_follow.h. A file that is in memory hound_read_i16 and its like read, without a copy of the file. */
+static inline int32_t hound_file_read_f32(hound_file *file, const char *path, hound_info_t *info, float **samples) {
+    int32_t code = HOUND_NOT_PERFORMED;
+    memset(file, 0, sizeof *file);
+    *samples = NULL, file->kind = HOUND_KIND_UNKNOWN;
+    file->descriptor = hound_file_open_at(path, O_RDONLY);
+    if (file->descriptor < 0) return file->fault = errno, code;
+    code = hound_file_load_f32(file, info, samples);
+    if (code < 0) {
+        hound_file_look(file), free(*samples);
+        *samples = NULL;
+    }
+    return hound_file_give_up(file, path, 0, code);
 }
 
 /* Reads so many bytes of standard input, a pipe or a terminal. Where these are fewer `fault` is 0 at the end, and else

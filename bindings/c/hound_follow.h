@@ -41,7 +41,7 @@ typedef struct {
     uint8_t tail[HOUND_FOLLOW_TAIL];
 } hound_follow;
 
-/* A sentence for what a call returned, without its full stop, in this room of HOUND_FILE_SENTENCE bytes. */
+/* A sentence for what a call returned, without its full stop, in this buffer of HOUND_FILE_SENTENCE bytes. */
 static inline const char *hound_follow_reason(const hound_follow *follow, int32_t code, char *room) {
     if (follow->file.fault == HOUND_FOLLOW_REPLACED) return "the file was replaced, emptied or cut off meanwhile";
     return hound_file_reason(&follow->file, code, room);

@@ -5,7 +5,7 @@
    kill leaves it; --overwrite empties it. With --split a file has at most so many frames, and never more than have
    room: take.wav is continued in take-002.wav, take-003.wav and so on, none of which may exist. No other program that
    asks for a lock (flock; LockFileEx on Windows), as repair.c does, writes it meanwhile. With --durable a sync is an
-   fsync (_commit): then the file has its checkpoints after a loss of power, too, but Windows may lose the name of a
+   fsync (_commit): then the file has its checkpoints after a power failure, too, but Windows may lose the name of a
    new one. Without it a sync does nothing, since what was written is with the system. After an error the program
    continues, and prints how many samples were lost; why, it says on standard error. It ends at the name of a next file
    that exists. With --chunk NAME=FILE each file has a chunk of this name, such as bext, with what FILE holds, before

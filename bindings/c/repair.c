@@ -3,9 +3,9 @@
    header counted before. A file that is whole, or in which chunks follow the data, is only read, and may be read-only.
    With --to-end these chunks are taken for samples, too. A whole file isn't canonical where its RIFF size or its pad
    byte isn't as the format asks: no sample is concerned, so it stays as it is unless --canonical or --to-end is given.
-   Copy the file first if it is the only one: some recorders leave older sound at the end, which then counts, and so do
-   the bytes of a chunk that was itself cut off. After a kill or an error the file can be repaired again. A file that a
-   recorder has locked, as record.c does, is rejected.
+   Copy the file first if it is the only one: some recorders leave older audio at the end, which then counts, and so do
+   the bytes of a chunk that was itself cut off. After an error, or if it is killed, the file can be repaired again. A
+   file that a recorder has locked, as record.c does, is rejected.
      cc -Ibindings/c bindings/c/repair.c bindings/lib/x86_64-linux/libhound_c.a -o repair && ./repair take.wav */
 #include "hound_file.h"
 

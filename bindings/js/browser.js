@@ -1,4 +1,4 @@
-// What bundlers for browsers take in the place of module.js: nothing of Node, and the WebAssembly module at the place
+// What bundlers for browsers take instead of module.js: nothing of Node, and the WebAssembly module at the place
 // where they have put it.
 export const nodeFiles = () => Promise.reject(), nodePaths = nodeFiles;
 

@@ -4,11 +4,11 @@ import { createWriteStream, openAsBlob } from "node:fs";
 import { open, stat, unlink } from "node:fs/promises";
 import { Readable } from "node:stream";
 import { pipeline } from "node:stream/promises";
-import { chunksAtEnd } from "./guess.js";
+import { SEARCHED_LENGTH, chunksAtEnd } from "./guess.js";
 import { findDamageInFile, guess, repair as repaired, repairFile } from "./hound.js";
 
-// The rate of a guess that isn't given, and in how many bytes at the end of a file chunks are looked for.
-const USUAL_RATE = 48000, END_LENGTH = 4096;
+// The rate of a guess that isn't given.
+const USUAL_RATE = 48000;
 const USAGE = `usage: hound_bindings info [--details] FILE..                     says what each file is
        hound_bindings repair [--to-end | --canonical] FILE..  repairs each in place: copy what you have only once
        hound_bindings guess [--rate HZ] FILE..                for a lost header: makes a copy NAME.repaired.wav
@@ -21,7 +21,7 @@ The status is 0 if all files could be read or repaired, 1 if one couldn't, and 2
 const number = (n) => n.toLocaleString("en");
 const counted = (n, what) => `${number(n)} ${what}${n === 1 ? "" : "s"}`;
 const STATES = {
-  whole: "whole", cutOff: "cut off", hasChunksAfterData: "chunks or a tag follow the sound", allCounted: "whole",
+  whole: "whole", cutOff: "cut off", hasChunksAfterData: "chunks or a tag follow the audio", allCounted: "whole",
 };
 
 function specText({ sampleRate, channels, bitsPerSample, isFloat }) {
@@ -42,13 +42,13 @@ function text(found, counts, details) {
 /** Says where a file seems to end in chunks, which a repair of what it found takes for sound. */
 async function sayWhatIsCounted(path, { state, dataStart }) {
   if (state !== "cutOff") return;
-  const { size } = await stat(path), start = Math.max(dataStart, size - END_LENGTH), handle = await open(path);
+  const { size } = await stat(path), start = Math.max(dataStart, size - SEARCHED_LENGTH), handle = await open(path);
   const { buffer, bytesRead } = await handle.read(Buffer.alloc(size - start), 0, size - start, start);
   await handle.close();
   const chunks = chunksAtEnd(buffer.subarray(0, bytesRead));
   if (chunks) {
-    const bytes = `its last ${number(chunks.length)} bytes look like a ${chunks.name} chunk (a title, markers)`;
-    console.error(`${path}: ${bytes}, and count as sound: leave them out of a copy to repair that`);
+    const bytes = `its last ${number(chunks.length)} bytes look like a chunk named ${chunks.name} (a title, markers)`;
+    console.error(`${path}: ${bytes}, and count as audio: leave them out of a copy to repair that`);
   }
 }
 

@@ -21,9 +21,9 @@ const HIGHEST = 16, SPARE = 1.9175;
 // where the one before that helps more than SOME: else the samples of a channel are of two, by turns.
 const TURNS = 1 / 3, LITTLE = 0.06, SOME = 0.1;
 // Channels are one if the sample before, of another one, helps each by more bits than HELP. A lowest byte that needs
-// more bits than LITTLE_BYTE is a part of the sound.
+// more bits than LITTLE_BYTE is a part of the audio.
 const HELP = 0.1, LITTLE_BYTE = 4;
-// Which share of floats has a size as those of sound, as far as they aren't 0.
+// Which share of floats has a magnitude such as audio has, as far as they aren't 0.
 const USUAL = 0.95, SMALLEST = 1e-8, LARGEST = 2, CLIP = 1 << 17;
 
 /** Where the blocks of a file begin whose samples begin at a byte. */
@@ -176,7 +176,7 @@ function areOne(heard) {
   return channels > 1 && Math.min(...helps) > HELP * heard.length;
 }
 
-/** Whether nearly all floats that aren't 0 have a size as those of sound. */
+/** Whether nearly all floats that aren't 0 have a magnitude such as audio has. */
 function areUsual(blocks) {
   const sizes = blocks.flatMap((block) => [...block]).filter((one) => one !== 0).map(Math.abs);
   const usual = sizes.filter((size) => SMALLEST < size && size <= LARGEST);
@@ -191,7 +191,7 @@ function highestOf(samples, { bitsPerSample, isFloat }) {
 }
 
 /** Where samples of this form begin, if one begins so many bytes after a header of the usual length: after the longest
-    header that such files have, and that the zeros at the front have room for. */
+    header that such files have, and that fits into the zeros at the front. */
 function startOf(shift, { bytesPerSample, channels }, zeros) {
   const place = USUAL_START + shift, isOne = (start) => start <= zeros && (start - place) % bytesPerSample === 0;
   return (bytesPerSample > 2 || channels > 2 ? LONGER_STARTS.find(isOne) : undefined) ?? place;
@@ -225,19 +225,33 @@ export function formOf(blocks, start, zeros, decode) {
   return { like: best.like, skip: zeros === null ? start : startOf(best.shift, best.like, zeros) };
 }
 
-// What chunks are called that programs write after the sound.
-const CHUNK_NAMES = "LIST id3 ID3 bext iXML cue smpl inst PEAK JUNK _PMX acid cart".split(" ");
+// The names of chunks that programs write after the audio, and in how many bytes at the end of a file they are looked
+// for: enough for a large iXML or axml chunk, and few enough to be read in an instant.
+const CHUNK_NAMES = ("LIST id3 ID3 bext iXML aXML axml chna ubxt cue smpl inst plst PEAK fact JUNK FLLR PAD filr _PMX acid " +
+  "strc cart levl umid minf elm1 regn ovwf DISP SNDM LGWV afsp r64m link").split(" ");
+export const SEARCHED_LENGTH = 1 << 22;
+
+/** The number that the four bytes of a chunk's name are. */
+const numberOf = (name) => [...name.padEnd(4)].reduceRight((number, letter) => number * 256 + letter.charCodeAt(), 0);
 
 /** The chunks whose last one ends exactly where a file does, of which these are the last bytes: the name of the first
     one, and how many bytes they have; nothing where there are none. */
 export function chunksAtEnd(bytes) {
   const view = new DataView(bytes.buffer, bytes.byteOffset, bytes.length);
-  const nameAt = (place) => String.fromCharCode(...bytes.subarray(place, place + 4)).replace(/ $/, "");
-  const isFirst = (place) => {
-    if (place + 8 > bytes.length || !CHUNK_NAMES.includes(nameAt(place))) return false;
-    const length = view.getUint32(place + 4, true), end = place + 8 + length, next = end + length % 2;
-    return end === bytes.length || next === bytes.length || isFirst(next);
-  };
-  const place = bytes.findIndex((_, i) => isFirst(i));
-  return place < 0 ? null : { name: nameAt(place), length: bytes.length - place };
+  const names = new Map(CHUNK_NAMES.map((name) => [numberOf(name), name]));
+  const letters = new Set(CHUNK_NAMES.map((name) => name.charCodeAt()));
+  // Where what ends there is at the end of the file, or chunks follow up to it.
+  const ends = new Set([bytes.length]);
+  let chunks = null;
+  for (let place = bytes.length - 8; place >= 0; place--) {
+    if (!letters.has(bytes[place])) continue;
+    const name = names.get(view.getUint32(place, true));
+    if (name === undefined) continue;
+    const length = view.getUint32(place + 4, true), end = place + 8 + length;
+    if (end === bytes.length || ends.has(end + length % 2)) {
+      ends.add(place);
+      chunks = { name, length: bytes.length - place };
+    }
+  }
+  return chunks;
 }

@@ -1,5 +1,6 @@
 /* What hound_file.h does with descriptors and effects that it wasn't made for: a file that was opened to append, an
-   effect that only another library requests, and a program that has no more descriptors.
+   effect that only another library requests, and a program that has no more descriptors; and that it reads files as
+   floats.
      descriptors PATH     (of a new file, which is removed) */
 #define _GNU_SOURCE
 #define _FILE_OFFSET_BITS 64
@@ -92,6 +93,55 @@ static void unknown_effect(const char *path) {
     expect("an unknown effect changes the file", holds(path, bytes, length, &all) && all == length);
 }
 
+/* Leaves a file of one channel at 8 kHz: a fmt chunk of 18 bytes, then an odd chunk, then samples, of which the header
+   counts so many bytes. */
+static void leave(const char *path, uint8_t tag, uint8_t bits, const uint8_t *data, size_t length, uint8_t counted) {
+    uint8_t front[] = {'R', 'I', 'F', 'F', 60, 0, 0, 0, 'W', 'A', 'V', 'E', 'f', 'm', 't', ' ', 18, 0, 0, 0,
+                       tag, 0, 1, 0, 0x40, 0x1f, 0, 0, 0, 0, 0, 0, 0, 0, bits, 0, 0, 0,
+                       'n', 'o', 't', 'e', 1, 0, 0, 0, 'x', 0, 'd', 'a', 't', 'a', counted, 0, 0, 0};
+    uint16_t frame = bits / 8, rate = (uint16_t)(8000 * frame);
+    FILE *out = fopen(path, "wb");
+    front[28] = (uint8_t)rate, front[29] = (uint8_t)(rate >> 8), front[32] = (uint8_t)frame;
+    expect("no file is left", out && fwrite(front, 1, sizeof front, out) > 0 && fwrite(data, 1, length, out) == length
+                                  && fclose(out) == 0);
+}
+
+/* A file of integers is read as these over 32768, one of floats as it is, and one that lacks a sample not at all. */
+static void read_as_floats(const char *path) {
+    static const uint8_t integers[] = {1, 0, 0, 0x80, 0, 0x40}, floats[] = {0, 0, 0x40, 0x3f, 0, 0, 0, 0xc0};
+    static uint8_t many[60002];
+    hound_info_t info;
+    float *samples;
+    leave(path, 1, 16, integers, sizeof integers, 6);
+    expect("a file of integers isn't read", hound_file_read_f32(&file, path, &info, &samples) == 0 && samples
+                                                && info.samples == 3 && info.spec.sample_rate == 8000);
+    expect("its samples are others", samples[0] == 1 / 32768.0f && samples[1] == -1 && samples[2] == 0.5f);
+    free(samples);
+    leave(path, 3, 32, floats, sizeof floats, 8);
+    expect("a file of floats isn't read", hound_file_read_f32(&file, path, &info, &samples) == 0 && samples
+                                              && info.samples == 2 && samples[0] == 0.75f && samples[1] == -2);
+    free(samples);
+    leave(path, 1, 16, integers, sizeof integers - 1, 6);
+    expect("a sample that isn't there is read",
+           hound_file_read_f32(&file, path, &info, &samples) == HOUND_TRUNCATED && !samples);
+    leave(path, 85, 16, integers, sizeof integers, 6);
+    expect("MP3 is read", hound_file_read_f32(&file, path, &info, &samples) == HOUND_UNSUPPORTED && !samples
+                              && file.kind == 85 && file.descriptor < 0);
+    many[60001] = 0x40;
+    FILE *out = fopen(path, "wb");
+    int64_t length = hound_header(&SPEC, 30001, many, HOUND_HEADER_BYTES);
+    uint8_t header[HOUND_HEADER_BYTES];
+    memcpy(header, many, (size_t)length), memset(many, 0, (size_t)length);
+    expect("no long file is left", out && fwrite(header, 1, (size_t)length, out) > 0
+                                       && fwrite(many, 1, sizeof many, out) == sizeof many && fclose(out) == 0);
+    expect("a file of many blocks isn't read", hound_file_read_f32(&file, path, &info, &samples) == 0 && samples
+                                                   && samples[29999] == 0 && samples[30000] == 0.5f);
+    free(samples);
+    hound_file_remove(path);
+    expect("a file that isn't there is read", hound_file_read_f32(&file, path, &info, &samples) == HOUND_NOT_PERFORMED
+                                                  && file.fault == ENOENT && !samples);
+}
+
 /* Standard input is closed, and its number is the only free one. */
 static void no_descriptors(const char *path) {
 #ifndef _WIN32
@@ -108,8 +158,9 @@ int main(int argc, char **argv) {
     if (argc != 2) return fprintf(stderr, "usage: descriptors PATH\n"), 2;
     open_to_append(argv[1]);
     unknown_effect(argv[1]);
+    read_as_floats(argv[1]);
     hound_file_remove(argv[1]);
     no_descriptors(argv[1]);
-    if (status == 0) puts("descriptors: a file that was opened to append, unknown effects, no more descriptors");
+    if (status == 0) puts("descriptors: a file that was opened to append, unknown effects, no more descriptors, files as floats");
     return status;
 }

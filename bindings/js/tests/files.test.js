@@ -1,6 +1,7 @@
 // Files written, read, appended to and repaired, beside bytes that were made by hand from the format.
 import assert from "node:assert/strict";
 import { test } from "node:test";
+import { spawnSync } from "node:child_process";
 import { openAsBlob } from "node:fs";
 import fs from "node:fs/promises";
 import os from "node:os";
@@ -599,6 +600,18 @@ test("an error names what a file is that isn't read, and what to do", async () =
   for (const file of [[], text("just text"), byHand([], { channels: 0 }), byHand([1, 0], { counted: 3 })]) {
     const says = ({ kind, message }) => kind === undefined && !/holds/.test(message);
     await assert.rejects(info(Uint8Array.from(file)), says);
+  }
+  await fs.rm(folder, { recursive: true });
+});
+
+test("the command names a chunk that a repair would take for audio, however long it is", async () => {
+  const folder = await fs.mkdtemp(path.join(os.tmpdir(), "hound-")), name = path.join(folder, "a.wav");
+  const command = new URL("../command.js", import.meta.url).pathname;
+  for (const length of [6000, 1 << 20]) {
+    const after = Buffer.concat([Buffer.from([...text("iXML"), ...u32(length)]), Buffer.alloc(length, " ")]);
+    await fs.writeFile(name, Buffer.concat([byHand([1, 0, 2, 0], { counted: 0 }), after]));
+    const { stderr } = spawnSync(process.execPath, [command, "info", name], { encoding: "utf8" });
+    assert.match(stderr, new RegExp(`its last ${(length + 8).toLocaleString("en")} bytes look like a chunk named iXML`));
   }
   await fs.rm(folder, { recursive: true });
 });

@@ -593,7 +593,7 @@ test("the command says what files are, and repairs them", async () => {
   assert.deepEqual(run("repair", other, cut), repaired);
   assert.deepEqual(run("info", cut), [0, `${cut}: whole, 4 frames (0.001 s), 1 byte left over, ${spec}`, ""]);
   await fs.writeFile(cut, Buffer.concat([fileOf([block(1)]), Buffer.from("LIST\x04\0\0\0INFO", "latin1")]));
-  assert.equal(run("repair", cut)[1], `${cut}: found chunks or a tag follow the sound, 3 frames (0.000 s), ${spec}`);
+  assert.equal(run("repair", cut)[1], `${cut}: found chunks or a tag follow the audio, 3 frames (0.000 s), ${spec}`);
   const toEnd = `${cut}: found cut off, 6 frames (0.001 s), of which the header counted 3, ${spec}`;
   assert.equal(run("repair", "--to-end", cut)[1], toEnd);
   await fs.truncate(cut, 52);
@@ -630,7 +630,7 @@ test("the command worries nobody about a file whose frames are all counted", asy
   assert.equal(run("info", "--details", file), `${file}: ${says}\n`);
 });
 
-test("the command makes copies of files whose header is lost, and names chunks that count as sound", async () => {
+test("the command makes copies of files whose header is lost, and names chunks that count as audio", async () => {
   const file = path.join(folder, "lost.wav"), copy = path.join(folder, "lost.repaired.wav");
   const run = (...words) => {
     const { status, stdout, stderr } = spawnSync(process.execPath, [COMMAND, ...words], { encoding: "utf8" });
@@ -659,7 +659,7 @@ test("the command makes copies of files whose header is lost, and names chunks t
   }
   const cut = Buffer.concat([fileOf([block(1)]), Buffer.from("LIST\x04\0\0\0INFO", "latin1")]).fill(0, 40, 44);
   await fs.writeFile(file, cut);
-  const named = `${file}: its last 12 bytes look like a LIST chunk (a title, markers), and count as sound: ` +
+  const named = `${file}: its last 12 bytes look like a chunk named LIST (a title, markers), and count as audio: ` +
     "leave them out of a copy to repair that\n";
   for (const [word, says] of [["info", named], ["repair", named], ["info", ""], ["repair", ""]]) {
     const [status, , said] = run(word, file);

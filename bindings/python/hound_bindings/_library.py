@@ -411,7 +411,7 @@ _NAME = "hound_c.dll" if os.name == "nt" else "libhound_c.so"
 
 
 def _loaded(path: str) -> Any:
-    """The library at a path. A file beside it may name what it needs of the processor: without that its first call
+    """The library at a path. A file next to it may name what it needs of the processor: without that its first call
     would end the program."""
     with contextlib.suppress(OSError), io.open(path + ".needs") as needs:
         lacking = processor.lacking(needs.read().split())

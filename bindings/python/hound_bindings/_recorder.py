@@ -112,7 +112,7 @@ def resumed(found: CRepair, allowed: int) -> CRecorder:
 
 
 def frames_left(recorder: CRecorder) -> int:
-    """How many frames have room after those of a recorder."""
+    """How many frames fit after those of a recorder."""
     return int(_recorder_frames_left(ctypes.byref(recorder)))
 
 
@@ -162,7 +162,7 @@ class Recorder(OneAtATime):
         return int(recorder.data_start + recorder.data_length)
 
     def _frames_with_room(self) -> int:
-        """How many frames have room after those in the file that is written."""
+        """How many frames fit after those in the file that is written."""
         return frames_left(self._state.recorder)
 
     def _request_block(self, count: int) -> None:

@@ -23,7 +23,7 @@ from .terminal import Bar, Wrong, complain, say, sentence_of
 
 __all__ = ["main"]
 
-_STATUS = "It ends with status 0; 1 where a file is damaged or something failed; 2 where the arguments are wrong."
+_STATUS = "The status is 0; 1 if a file is damaged or something failed; 2 if the arguments are wrong."
 _STATES = {
     hound.State.WHOLE: "whole",
     hound.State.CUT_OFF: "cut off",
@@ -118,7 +118,7 @@ def _source(name: str) -> Any:
 
 class _Seen(NamedTuple):
     """What the header of a file says; and unless it is a pipe or a device, which can be read only once, what is found
-    of it, and the chunks at its end that count as sound."""
+    of it, and the chunks at its end that count as audio."""
 
     info: hound.Info
     found: Optional[hound.Repair] = None
@@ -148,7 +148,7 @@ def _said_of(info: hound.Info, found: Optional[hound.Repair]) -> str:
 
 
 def _chunks_counted(file: disk.Descriptor, found: CRepair) -> Optional[lost.Chunks]:
-    """The chunks that seem to end a file, and that a repair takes for sound since the header counts none or too few."""
+    """The chunks that seem to end a file, and that a repair takes for audio since the header counts none or too few."""
     if found.state != hound.State.CUT_OFF:
         return None
     return lost.chunks_at_end(file, found.data_start, found.length)
@@ -156,10 +156,10 @@ def _chunks_counted(file: disk.Descriptor, found: CRepair) -> Optional[lost.Chun
 
 def _say_what_is_counted(name: str, chunks: Optional[lost.Chunks]) -> None:
     if chunks:
-        sentence = f"its last {chunks.length} bytes look like a {chunks.name} chunk (a title, markers)"
+        sentence = f"its last {chunks.length} bytes look like a chunk named {chunks.name} (a title, markers)"
         part = shlex.quote(os.path.splitext(name)[0] + ".part.wav")
         leave_out = f"head -c -{chunks.length} {shlex.quote(name)} > {part}"
-        complain(f"{name}: {sentence}, and count as sound: {leave_out} leaves them out")
+        complain(f"{name}: {sentence}, and count as audio: {leave_out} leaves them out")
 
 
 def _info(options: argparse.Namespace) -> int:
@@ -572,29 +572,29 @@ def _parser() -> argparse.ArgumentParser:
 
     flag: Dict[str, Any] = {"action": "store_true"}
     add = command("info", _info, "say what files are, and whether they are damaged")
-    add("files", nargs="+", metavar="FILE", help="or a folder, of whose .wav files all are meant; - is standard input")
+    add("files", nargs="+", metavar="FILE", help="a file, a folder (all its .wav files), or - for standard input")
     words = "print a JSON object in a line for each file, or with --follow for each second"
     add("--json", help=words, **flag)
     monitoring.add_options(add)
 
     words = "repair files whose recording was cut off, in place: copy what can't be replaced, or use --copy"
     add = command("repair", _repair, words)
-    words = "or a folder, of whose .wav files a table is printed; with --guess and --like those without a header are meant"
+    words = "a file, or a folder: all its .wav files, with --guess and --like those that have no header"
     add("files", nargs="+", metavar="FILE", type=_file, help=words)
-    add("--dry-run", help="only say what would be repaired: then the status of a file that would be is 1", **flag)
+    add("--dry-run", help="repair nothing, and say what would be repaired; the status is 1 if a file would be", **flag)
     add("--to-end", help="take chunks after the data for samples, too", **flag)
-    words = "of a file whose frames are all counted, too, write the RIFF size and the pad byte as the format asks"
+    words = "also write the RIFF size and the pad byte of a file in which only these aren't as the format asks"
     add("--canonical", help=words, **flag)
     add("--copy", help="leave each damaged file as it is, and repair a copy NAME.repaired.wav", **flag)
     add("--durable", help="sync what is written", **flag)
     add("--json", help="print a JSON object in a line for each file", **flag)
-    words = "for a lost header: copy such samples (f: floats) to NAME.repaired.wav"
+    words = "for a lost header: copy the samples, which have this form (f: floats), to NAME.repaired.wav"
     add("--like", type=_form_of, metavar="RATE,CHANNELS,BITS[f]", help=words)
-    add("--guess", help="for a lost header: guess channels and bits by what is predictable then", **flag)
-    add("--rate", type=_rate, metavar="HZ", help=f"that of --guess, which can't find it ({_USUAL_RATE} is assumed)")
+    add("--guess", help="for a lost header: guess the channels and bits in which the samples are predictable", **flag)
+    add("--rate", type=_rate, metavar="HZ", help=f"the sample rate, which --guess can't find (default: {_USUAL_RATE})")
     words = (
-        "with --like and --guess: how many come before the samples "
-        "(without it: those before what looks like their header, or of a usual one)"
+        "with --like and --guess: how many bytes come before the samples (default: all up to the end of what looks like "
+        "their header, or else as many as a usual header has)"
     )
     add("--skip", type=_from(0), metavar="BYTES", help=words)
 
@@ -603,29 +603,29 @@ def _parser() -> argparse.ArgumentParser:
         "float32. No sample is shifted: 24 bits go from -8388608 to 8388607"
     )
     add = command("cat", _cat, words)
-    add("files", nargs="+", metavar="FILE", help="- is standard input")
-    add("--type", choices=conversion.READ_TYPES, help="of the samples; floats have the full scale 1")
-    stream = {"help": "read all that follows the header, as of a stream that doesn't know its length", **flag}
+    add("files", nargs="+", metavar="FILE", help="a file, or - for standard input")
+    add("--type", choices=conversion.READ_TYPES, help="the type of the samples; floats have the full scale 1")
+    stream = {"help": "read all that follows the header: for a stream whose header doesn't know its length", **flag}
     add("--to-end", **stream)
     monitoring.add_options(add)
 
     add = command("convert", _convert, "write the samples of a file to a new one, in another form")
-    add("source", metavar="IN", help="- is standard input")
-    add("target", metavar="OUT", type=_file, help="gets its name when it is whole")
+    add("source", metavar="IN", help="a file, or - for standard input")
+    add("target", metavar="OUT", type=_file, help="the new file, which gets its name when it is whole")
     form = {"choices": sorted({bits for bits, _ in INTEGERS}), "type": int}
     add("--to-end", **stream)
-    add("--bits", help="integers of so many bits: rounded, and clipped, which is said", **form)
-    add("--float", help=f"floats of {_FLOAT_BITS} bits", **flag)
-    add("--channels", type=_positive, help="the mean of all as one, or one in all")
+    add("--bits", help="write integers with so many bits, rounded; clipped samples are counted", **form)
+    add("--float", help=f"write {_FLOAT_BITS}-bit floats", **flag)
+    add("--channels", type=_positive, help="1: the mean of all channels; more: the one channel in each")
     add("--dither", help="add triangular noise before rounding", **flag)
-    add("--seed", type=_positive, help="of that noise (1)")
-    add("--rate", type=_rate, help="isn't changed: it is an error")
+    add("--seed", type=_positive, help="the seed of that noise (default: 1)")
+    add("--rate", type=_rate, help="an error: the rate isn't changed")
     add("--overwrite", help="replace OUT if it is there", **flag)
     add("--durable", help="sync what is written", **flag)
 
-    add = command("join", _join, "write the samples of a recording in parts to one new file")
+    add = command("join", _join, "write the samples of a split recording to one new file")
     words = (
-        "its first part, beside which the others are found, or all of them, in any order: whole files of the same rate, "
+        "the first part, next to which the others are found, or all of them, in any order: whole files of the same rate, "
         "channels and bits; without -o the last name is OUT"
     )
     add("files", nargs="+", metavar="IN", type=_file, help=words)
@@ -640,14 +640,14 @@ def _parser() -> argparse.ArgumentParser:
         "unsigned)"
     )
     add = command("record", recording.record, words, recording.EXAMPLES)
-    words = "has all samples up to the last checkpoint if the program is killed; Ctrl-C ends it well"
+    words = "the new file, which has all samples up to the last checkpoint if the program is killed; Ctrl-C ends it well"
     add("target", metavar="OUT", type=_file, help=words)
     words = "frames a second, such as 48000 or 44.1k: needed for raw samples, as --channels and --bits are"
     add("--rate", type=_rate, help=words)
     add("--channels", type=_positive)
     add("--bits", **form)
-    add("--float", help=f"floats, of {_FLOAT_BITS} bits", **flag)
-    add("--raw", help="take the input for samples, also where it begins as a WAV stream", **flag)
+    add("--float", help=f"{_FLOAT_BITS}-bit floats", **flag)
+    add("--raw", help="take the input for raw samples even if it begins like a WAV stream", **flag)
     words = (
         "continue the recording in OUT, or in its last part, repaired first if it was cut off; a raw one needs no --rate "
         "then, and with --rate, --channels and --bits it begins where there is none"
@@ -655,10 +655,10 @@ def _parser() -> argparse.ArgumentParser:
     add("--append", help=words, **flag)
     add("--overwrite", help="empty OUT if it is there", **flag)
     add("--durable", help="sync each checkpoint", **flag)
-    add("--checkpoint", type=_seconds, default=1.0, metavar="SECONDS", help="make one so often (1)")
+    add("--checkpoint", type=_seconds, default=1.0, metavar="SECONDS", help="the time between checkpoints (default: 1)")
     words = (
-        "continue in NAME-002.wav, NAME-003.wav and so on, which mustn't be there, after so many frames, or as much as "
-        "2GiB, 600MiB, 1h, 10min or 30s; without it a new recording does so where a file has no more room (4 GiB)"
+        "continue in NAME-002.wav, NAME-003.wav and so on, which mustn't exist, after so many frames, or after 2GiB, "
+        "600MiB, 1h, 10min or 30s; without it a new recording continues there when a file is full (4 GiB)"
     )
     add("--split", type=_split, metavar="LENGTH", help=words)
     words = "give each file a chunk NAME before its samples, such as bext, with what FILE holds; may be repeated"

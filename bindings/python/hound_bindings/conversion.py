@@ -217,7 +217,7 @@ def _shaped(samples: "array.array[Any]", channels: int, always_2d: bool) -> Any:
 
 class Room:
     """Where samples that are read are stored: a buffer of the caller, or a new array. It is `bound` to what a file is:
-    then `way` is how they are read, and `most` how many frames have room."""
+    then `way` is how they are read, and `most` how many frames fit."""
 
     way: Way
     most = sys.maxsize
@@ -254,7 +254,7 @@ class Room:
         return self
 
     def place(self, count: int) -> ContextManager[Tuple[Any, int]]:
-        """The address of the room for so many samples, while they are stored, and its bytes."""
+        """The address of the space for so many samples, while they are stored, and its bytes."""
         if self._view is not None:
             return address(self._view)
         self._allocate(count)
@@ -275,7 +275,7 @@ class Room:
             return read(content[: count * self.way.width])
 
     def decode(self, content: Any, count: int, out: int) -> None:
-        """Stores the samples of the first containers in some bytes at an address in the room."""
+        """Stores the samples of the first containers in some bytes at an address in the space."""
         way = self.way
         with address(content) as (start, _):
             if not way.is_converted:

@@ -46,7 +46,7 @@ def info(file: File) -> Info:
 def read_into(file: File, buffer: Any, start: int = 0) -> int:
     """Reads frames from number `start` on into a buffer, and returns how many there were.
 
-    The buffer is filled as far as it has room for whole frames and the file holds them. Its type is
+    The buffer is filled as far as whole frames fit and the file holds them. Its type is
     that of the samples; it has to be writable and contiguous. After an error a part of it may be overwritten.
     """
     start = integer("start", start, 0, sys.maxsize)
@@ -76,7 +76,7 @@ def read(
     of them as float64. Of a file that holds fewer frames than its header counts these are read, and a read that
     starts after them is an error.
 
-    With `out` they are stored in that buffer, as a numpy array, as far as it has room for whole frames, and the result
+    With `out` they are stored in that buffer, as a numpy array, as far as whole frames fit, and the result
     is a memoryview of this part of it. Its type and its dimensions are those of the samples; it has to be writable and
     contiguous. After an error a part of it may be overwritten.
     """
@@ -289,7 +289,7 @@ def append(
     a zero after them, where frames have one byte). After an error the header counts what it did before, and the file is
     cut off after that, so it can be done again; where the system can't cut it off, the error says so. Chunks that were
     to be overwritten are lost then. If a signal handler raises, or a size was written though the system says that it
-    failed, the same holds, or all samples are appended. With `durable` the samples survive a loss of power once this
+    failed, the same holds, or all samples are appended. With `durable` the samples survive a power failure once this
     has returned; without it, once the system has written them. After a sync that failed it is unknown what is stored,
     and nothing more is written: the samples may be there, counted or not. A recording that was cut off is an error, and
     so are chunks or a tag after the data, unless they may be overwritten.

@@ -243,7 +243,7 @@ def _decoded(block: bytes, form: Info) -> "array.array[Any]":
 
 
 def _are_usual(blocks: List["array.array[Any]"]) -> bool:
-    """Whether nearly all floats that aren't 0 have a size as those of sound."""
+    """Whether nearly all floats that aren't 0 have a magnitude such as audio has."""
     sizes = [abs(sample) for block in blocks for sample in block if sample != 0]
     usual = len([size for size in sizes if _SMALLEST < size <= _LARGEST])
     return usual > 0 and usual >= _USUAL * len(sizes)
@@ -259,7 +259,7 @@ def _highest_of(samples: "array.array[Any]", bits: int, is_float: bool) -> List[
 
 def _start_of_form(form: Info, zeros: int) -> int:
     """Where samples of this form begin, if one begins so many bytes after a header of the usual length: after the
-    longest header that such files have, and that the zeros at the front have room for."""
+    longest header that such files have, and that fits into the zeros at the front."""
     place, width = USUAL_START + form.data_start, form.bits_per_sample // 8
     longer = (start for start in _LONGER_STARTS if start <= zeros and (start - place) % width == 0)
     return next(longer, place) if width > 2 or form.channels > 2 else place
@@ -333,7 +333,7 @@ def guess(path: Path, *, rate: int, skip: Optional[int] = None) -> Info:
     """Guesses what the samples of a file are whose header is lost: 8, 16, 24 or 32 bits, or floats, of one to eight
     channels, by which form makes them most predictable; and where they begin, as its `data_start`. It may be wrong, so
     listen to what `repair(path, like=guess(path, rate=48000))` makes of it. The rate can't be guessed: with a wrong one
-    the sound is too fast or too slow. The samples begin at byte `skip`; without it after what looks like the header of
+    the audio is too fast or too slow. The samples begin at byte `skip`; without it after what looks like the header of
     the data, or else near the end of a header of the usual length. What isn't predictable, as silence and noise, is a
     ValueError."""
     front = _front_of(path)
@@ -347,8 +347,14 @@ def guess(path: Path, *, rate: int, skip: Optional[int] = None) -> Info:
     return form._replace(sample_rate=rate)
 
 
-# What chunks are called that programs write after the sound.
-_NAMES = [name.encode().ljust(4) for name in "LIST id3 ID3 bext iXML cue smpl inst PEAK JUNK _PMX acid cart".split()]
+# The names of chunks that programs write after the audio, and in how many bytes at the end of a file they are looked
+# for: enough for a large iXML or axml chunk, and few enough to be read in an instant.
+_NAMES = [
+    name.encode().ljust(4)
+    for name in "LIST id3 ID3 bext iXML aXML axml chna ubxt cue smpl inst plst PEAK fact JUNK FLLR PAD filr _PMX acid "
+    "strc cart levl umid minf elm1 regn ovwf DISP SNDM LGWV afsp r64m link".split()
+]
+_SEARCHED_BYTES = 1 << 22
 
 
 class Chunks(NamedTuple):
@@ -358,18 +364,25 @@ class Chunks(NamedTuple):
     length: int
 
 
+def _places(content: bytes, name: bytes) -> Iterator[int]:
+    place = content.find(name)
+    while place >= 0:
+        yield place
+        place = content.find(name, place + 1)
+
+
 def chunks_at_end(file: disk.Descriptor, data_start: int, length: int) -> Optional[Chunks]:
     """The chunks after this byte whose last one ends exactly where a file of this length does; nothing where there are
     none. A repair of a header that counts no samples takes them for samples."""
-    start = max(length - FRONT_BYTES, data_start)
+    start = max(length - _SEARCHED_BYTES, data_start)
     end = _read(file, max(length - start, 0), start)
-
-    def is_first(place: int) -> bool:
-        if place + 8 > len(end) or end[place : place + 4] not in _NAMES:
-            return False
-        length = int.from_bytes(end[place + 4 : place + 8], "little")
-        after = place + 8 + length
-        return len(end) in (after, after + length % 2) or is_first(after + length % 2)
-
-    place = next(filter(is_first, range(len(end))), None)
-    return None if place is None else Chunks(end[place : place + 4].decode("ascii").strip(), len(end) - place)
+    first, ends = None, {len(end)}  # Where what ends there is at the end of the file, or chunks follow up to it.
+    for place in sorted((place for name in _NAMES for place in _places(end, name)), reverse=True):
+        if place + 8 > len(end):
+            continue
+        count = int.from_bytes(end[place + 4 : place + 8], "little")
+        after = place + 8 + count
+        if after == len(end) or after + count % 2 in ends:
+            first = place
+            ends.add(place)
+    return None if first is None else Chunks(end[first : first + 4].decode("ascii").strip(), len(end) - first)

@@ -19,8 +19,8 @@ _BLOCK, _POLL, _EVERY = 1 << 16, 0.05, 1.0
 
 def add_options(add: Any) -> None:
     flag = {"action": "store_true"}
-    add("--follow", help="of a file that another program records: go on until its recorder has ended", **flag)
-    add("--parts", help="with --follow: go on in NAME-002.wav, NAME-003.wav and so on", **flag)
+    add("--follow", help="follow a file that another program records, until its recorder has ended", **flag)
+    add("--parts", help="with --follow: continue in NAME-002.wav, NAME-003.wav and so on", **flag)
     words = "with --follow: wait so long for more of a recorder that locks nothing, such as a program in Node"
     add("--idle", type=_seconds, metavar="SECONDS", help=words)
     words = "with --follow: wait so long for a file that isn't there yet, or for more: then it is an error"

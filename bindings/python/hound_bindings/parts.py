@@ -1,4 +1,4 @@
-"""The files of a recording in parts: take.wav, take-002.wav, take-003.wav and so on."""
+"""The files of a split recording: take.wav, take-002.wav, take-003.wav and so on."""
 import contextlib
 import errno
 import os

@@ -269,7 +269,7 @@ def _opened_to_record(options: argparse.Namespace, form: hound.Info) -> hound.Wr
     else:
         writer = hound.create(options.target, **more, exclusive=not options.overwrite)
     if not options.split:
-        writer._split(sys.maxsize)  # The second file is looked for where the first one has no more room.
+        writer._split(sys.maxsize)  # The second file is looked for where the first one is full.
     return writer
 
 
@@ -288,13 +288,13 @@ def _record_as(options: argparse.Namespace, source: _Input, form: hound.Info) ->
     folder = os.path.dirname(options.target)
 
     def as_given(path: Any) -> str:
-        """The name of a file beside the target, as that is given."""
+        """The name of a file next to the target, as that is given."""
         name: str = os.path.join(folder, os.path.basename(path))
         return name if os.path.abspath(name) == os.path.abspath(path) else str(path)
 
     try:
         writer = _opened_to_record(options, form)
-        before = len(writer.paths) - 1  # those of a recording in parts that is continued
+        before = len(writer.paths) - 1  # those of a split recording that is continued
         try:
             with writer:
                 left = _recorded(writer, source, form, options.checkpoint)

@@ -94,7 +94,7 @@ def repair(
     skip: Optional[int] = None,
 ) -> Repair:
     """Repairs a file whose recording was cut off, in place, and returns how it was found. Copy it first if it
-    is the only one: some recorders leave older sound at the end, which then counts.
+    is the only one: some recorders leave older audio at the end, which then counts.
 
     It writes the RIFF size, the data length, and then a missing pad byte; with `durable` it syncs before and after each
     of them. A file that is whole, or that chunks follow, is only read; with `to_end` all that follows the header of the

@@ -1,4 +1,4 @@
-"""Recordings that are continued, whatever a kill or a loss of power left of them."""
+"""Recordings that are continued, whatever a killed process or a power failure left of them."""
 import contextlib
 import errno
 import os
@@ -31,15 +31,15 @@ def resume(
     split: Optional[int] = None,
     chunks: Optional[Chunks] = None,
 ) -> Writer:
-    """Continues the recording at a path, whatever a kill or a loss of power left of it, or begins one: for a recorder
-    that starts by itself.
+    """Continues the recording at a path, whatever a killed process or a power failure left of it, or begins one: for a
+    recorder that starts by itself.
 
     What was cut off is repaired first, as `repair` does. A file with no more than a part of the header with which such
     a recording begins has no sample, so it is begun anew. A file of another form is a ValueError and stays as it is,
     and so does one that chunks or a tag follow (`HoundError`), or that isn't such a recording. Without `rate`,
     `channels`, `bits` and `like` the file says what they are, and it has to be there with its header.
 
-    A recording in parts continues in the last part; one that is missing before it is a FileNotFoundError. `paths` and
+    A split recording continues in the last part; one that is missing before it is a FileNotFoundError. `paths` and
     `tell` of the Writer count all parts. `split` is that of `create`, for this part and the next ones, and so are the
     `chunks`, for a file that is begun; those of one that is continued stay as they are.
     """

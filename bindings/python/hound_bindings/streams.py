@@ -287,7 +287,7 @@ class Writer(Recorder):
 
     A block is with the system once `write` has returned, and the header counts it after the next `flush` or `close`:
     if the program is killed before, `repair` finds it, but where frames have one byte maybe a zero after it. A file
-    that is durable has all blocks of a `flush` after a loss of power, too. Only whole frames are ever counted.
+    that is durable has all blocks of a `flush` after a power failure, too. Only whole frames are ever counted.
 
     After an error of `write` the block isn't in the file, and the next call continues; it first makes the header count
     all blocks before that one, also if it is a `write`. If the system can't cut the file off either, a part of the
@@ -300,7 +300,7 @@ class Writer(Recorder):
     of the same thread gets a RuntimeError. One that isn't closed is closed when it is collected or the program ends,
     with a ResourceWarning. The file is locked until then.
 
-    With `split` it continues in a next file where a block has no room, so a block is in one file, in whole frames. The
+    With `split` it continues in a next file where a block doesn't fit, so a block is in one file, in whole frames. The
     next file is made, begun and locked before this one is ended. Where that fails, as at a name that is there, `write`
     is the error, and the Writer is as before: all blocks are in their files, and it can be used or closed, which
     removes a next file that has no samples yet. A block that is larger than a file may be is written as several: after
@@ -372,7 +372,7 @@ class Writer(Recorder):
 
     @property
     def frames_left(self) -> int:
-        """How many frames have room after those that are written, so that a program can continue in another file; with
+        """How many frames fit after those that are written, so that a program can continue in another file; with
         `split`, how many this file still takes."""
         left = self._frames_with_room()
         return left if self._most is None else min(left, max(self._most - self._frames(), 0))
@@ -392,7 +392,7 @@ class Writer(Recorder):
             given.view.release()
 
     def _write_in_files(self, given: conversion.Given, most: int) -> None:
-        """Writes a block; or of one that is larger than a file may be what each file has room for."""
+        """Writes a block; or of one that is larger than a file may be what fits in each file."""
         channels, first = self._spec.channels, 0
         if given.count <= most * channels or given.count % channels:
             self._write(given)
@@ -443,7 +443,7 @@ class Writer(Recorder):
         self._finish_block(recorder, encoder.clipped, encoder.noise)
 
     def _begin_block(self, count: int) -> None:
-        """Requests the write of so many samples, in a next file where they have no room in this one."""
+        """Requests the write of so many samples, in a next file where they don't fit in this one."""
         if self._most is not None:
             frames, torn = divmod(count, self._spec.channels)
             if not torn and frames > self.frames_left:
@@ -455,7 +455,7 @@ class Writer(Recorder):
         self._state = self._state._replace(ended=tuple(paths), frames_before=frames)
 
     def _split(self, frames: int) -> None:
-        """Lets the recording continue in a next file after so many frames, or as many as have room."""
+        """Lets the recording continue in a next file after so many frames, or as many as fit."""
         self._most = min(frames, self._frames() + self._frames_with_room())
 
     def _continue(self) -> None:
@@ -583,13 +583,13 @@ def create(
     split: Optional[int] = None,
     chunks: Optional[Chunks] = None,
 ) -> Writer:
-    """A new file, in the place of one that is there: it has a header, and no frames yet. `like` has what isn't given.
+    """A new file, instead of one that is there: it has a header, and no frames yet. `like` has what isn't given.
 
     With `exclusive` a file that is there is a FileExistsError. It stays as it is then, and where an argument is wrong,
     the file is locked, or its folder can't be synced though it is to be durable. An object is cut off where it is; it
     can't be durable or locked.
 
-    With `split` a file has at most so many frames, and never more than have room. The recording of `take.wav` continues
+    With `split` a file has at most so many frames, and never more than fit. The recording of `take.wav` continues
     in `take-002.wav`, `take-003.wav` and so on, each of which mustn't be there: of the second one that is looked at
     first, of each before the file before it is ended. Names that would be too long, and a folder in which nothing can
     be made, are errors before anything is recorded. All files are in the folder where a relative path is at this call,

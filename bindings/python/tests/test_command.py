@@ -142,8 +142,10 @@ class Lost(Folder):
             self.leave(whole + chunks)
             self.assertEqual(self.chunks_after(44), found, chunks)
             self.assertIsNone(self.chunks_after(44 + len(whole) + len(chunks)))
-        self.leave(whole + b"LIST" + struct.pack("<I", 4089) + bytes(4089))  # Its name is a byte too far from the end.
-        self.assertIsNone(self.chunks_after(44))
+        large, many = b"iXML" + struct.pack("<I", 1 << 20) + b" " * (1 << 20), b"FLLR\0\0\0\0" * 3000
+        for name, chunks in ("iXML", large), ("FLLR", many), ("iXML", large + many):
+            self.leave(whole + chunks)
+            self.assertEqual(self.chunks_after(44), (name, len(chunks)))
 
     def test_a_header_that_is_lost(self):
         for bits, values in WIDE.items():
@@ -538,7 +540,7 @@ class Command(Folder):
     def test_a_chunk_that_counts_as_sound(self):
         content = bytearray(made_by_wave(SAMPLES)) + b"LIST\4\0\0\0INFO"
         content[40:44] = bytes(4)
-        said = b"hound-wav: a.wav: its last 12 bytes look like a LIST chunk (a title, markers), and count as sound: "
+        said = b"hound-wav: a.wav: its last 12 bytes look like a chunk named LIST (a title, markers), and count as audio: "
         said += b"head -c -12 a.wav > a.part.wav leaves them out\n"
         self.leave_as("a.wav", content)
         for words in ["info"], ["repair", "--dry-run"], ["repair", "--copy"], ["repair"]:
@@ -960,7 +962,7 @@ class Command(Folder):
             self.leave_as("a.wav", by_hand(bytes(20) + b"LIST\4\0\0\0INFO", 4))
             command = [sys.executable, "-c", counting, *words, "a.wav"]
             ended = subprocess.run(command, capture_output=True, env=env, cwd=self.folder)
-            self.assertIn(b"last 12 bytes look like a LIST chunk", ended.stderr)
+            self.assertIn(b"last 12 bytes look like a chunk named LIST", ended.stderr)
             self.assertEqual(ended.stdout.split(b"\n")[-2].decode(), counts, words)
 
     def test_a_file_that_is_recorded_to_isn_t_repaired(self):
@@ -1274,7 +1276,7 @@ class Command(Folder):
         self.assertEqual(self.said, b"hound-wav: none.wav: nothing new is counted\n")
 
     def test_help(self):
-        self.assertIn(b"status 0", self.run_command("--help"))
+        self.assertIn(b"The status is 0", self.run_command("--help"))
         for name in "info", "repair", "cat", "convert", "join", "record":
             self.assertIn(b"usage: hound-wav " + name.encode(), self.run_command(name, "--help"))
         said = b" ".join(self.run_command("cat", "--help").split())
