@@ -950,7 +950,7 @@ function* reading(medium, length, place) {
     that means nothing (32,721 of 10,000 bytes, of which 8,048 were there), and the header would count what isn't. */
 function* writing(medium, bytes, place) {
   for (let count = 0; count < bytes.length;) {
-    const part = bytes.subarray(count);
+    const part = count > 0 ? bytes.subarray(count) : bytes;
     count += someOf("written", yield medium.write(part, { at: place + count }), part.length);
   }
   if (medium instanceof NodeFile) return;
