@@ -1,9 +1,9 @@
 // What hound.d.ts declares: `tsc` accepts this file, where each call has its arguments and its result.
 import {
-  HoundError, append, appendTo, continueFile, findDamage, findDamageInFile, info, read, record, repair, repairFile,
-  write,
+  HoundError, append, appendTo, continueFile, findDamage, findDamageInFile, follow, info, read, record, repair,
+  repairFile, write,
 } from "../hound.js";
-import type { Damage, Info, Recorder } from "../hound.js";
+import type { Damage, Info, Medium, Recorder } from "../hound.js";
 
 export async function uses(blob: Blob, bytes: Uint8Array): Promise<string> {
   const wide: Int32Array = await read(blob, { type: "int32", start: 1, frames: 2 });
@@ -39,4 +39,39 @@ export async function uses(blob: Blob, bytes: Uint8Array): Promise<string> {
   // @ts-expect-error: the rate is missing.
   await write(wide, { channels: 2 });
   return found.state === "cutOff" ? new HoundError("NEEDS_MEND").code : `${head.frames} ${head.isFloat} ${held}`;
+}
+
+/** A medium of one's own, and one of a browser, where that has it: its calls return no promises. */
+export async function over(medium: Medium, handle: AccessHandle): Promise<number> {
+  const format = { sampleRate: 8000, bitsPerSample: 16 };
+  const recorder: Recorder = await record(medium, format, { durable: true, checkpoint: 1 });
+  await (await appendTo(handle, { checkpoint: 1000 })).close();
+  await (await continueFile(handle, recorder.spec, { chunks: [] })).close();
+  const next = async (number: number): Promise<Medium> => number === 2 ? medium : handle;
+  await record(handle, recorder.spec, { split: 100, next });
+  // @ts-expect-error: nothing gives the next medium.
+  await record(handle, recorder.spec, { split: 100 });
+  // @ts-expect-error: a path has its next files by its name.
+  await record("take.wav", recorder.spec, { split: 100, next });
+  return (await findDamageInFile(handle)).frames + (await repairFile(medium)).frames + recorder.counted;
+}
+
+/** Recordings that are read while they are made. */
+export async function followed(file: Blob, handle: { getFile(): Promise<Blob> }): Promise<number> {
+  let count = 0;
+  for await (const block of follow(handle, { type: "int32", isRecorded: async () => false })) count += block.length;
+  for await (const [left] of follow(() => file, { planar: true, idle: 10 })) count += left!.length;
+  for await (const block of follow("take.wav", { parts: true, isRecorded: () => true })) count += block.length;
+  // @ts-expect-error: a Blob doesn't change.
+  follow(file);
+  return count;
+}
+
+interface AccessHandle {
+  getSize(): number;
+  read(bytes: ArrayBufferView, options?: { at?: number }): number;
+  write(bytes: ArrayBufferView, options?: { at?: number }): number;
+  truncate(size: number): void;
+  flush(): void;
+  close(): void;
 }
