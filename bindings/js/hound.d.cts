@@ -210,17 +210,41 @@ export function repair(file: Uint8Array | ArrayBuffer, options?: RepairOptions):
 export function repair(file: Blob, options?: RepairOptions): Promise<Damage & { file: Blob }>;
 
 /**
- * Repairs a file at a path in place, in Node, and returns how it was found. Each step is synced, so that a file can be
- * repaired again after an error, a kill or a loss of power. Nothing is deleted: bytes of a torn frame stay. Node has
- * no locks: no other program may write it meanwhile.
+ * What a file is recorded to or repaired in that has no path, such as a `FileSystemSyncAccessHandle`, which a worker of
+ * a browser has of a file of the origin's private file system: whatever has these calls, each of which may return a
+ * promise. A read or a write may do a part of what it is asked for, and says how many bytes that is; only at the end of
+ * the file a read says 0. An error is thrown.
+ *
+ * What is written is read again, because a browser was seen to say of a full disk that all is written. `flush` has to
+ * store what was written; a recorder calls it with `durable` alone, and a repair always. Nothing else may write the
+ * file meanwhile.
+ *
+ * A recorder closes its medium when it is closed. A repair leaves it open, and so does a call that fails to begin.
+ *
+ * The file's name isn't stored: Chromium was seen to sync none, so that after a power failure a new file may be
+ * missing, though its samples were synced. Keep an empty file that was there for long, and record to that.
  */
-export function repairFile(path: string | URL, options?: Repairing): Promise<Damage>;
+export interface Medium {
+  getSize(): number | Promise<number>;
+  read(bytes: Uint8Array, options: { at: number }): number | Promise<number>;
+  write(bytes: Uint8Array, options: { at: number }): number | Promise<number>;
+  truncate(size: number): void | Promise<void>;
+  flush(): void | Promise<void>;
+  close(): void | Promise<void>;
+}
+
+/**
+ * Repairs a file at a path, in Node, or a medium in place, and returns how it was found. Each step is synced, so that
+ * a file can be repaired again after an error, a kill or a loss of power. Nothing is deleted: bytes of a torn frame
+ * stay. Node has no locks: no other program may write it meanwhile.
+ */
+export function repairFile(file: string | URL | Medium, options?: Repairing): Promise<Damage>;
 
 /**
  * Reports what `repairFile` would find, or fails as it would. The file may be read-only, and is read as far as needed:
  * a Blob of Node 20's `openAsBlob` has its size modulo 2^32, so that of a file past 4 GiB `findDamage` looks at a part.
  */
-export function findDamageInFile(path: string | URL): Promise<Damage>;
+export function findDamageInFile(file: string | URL | Medium): Promise<Damage>;
 
 /**
  * Records a new file at a path, in Node, in the place of one that is there; with `exclusive` that is an error. With
@@ -240,27 +264,56 @@ export function findDamageInFile(path: string | URL): Promise<Damage>;
 export function record(
   path: string | URL,
   format: Format & { bitsPerSample: number },
-  options?: { durable?: boolean; exclusive?: boolean; split?: number; chunks?: Iterable<Chunk> },
+  options?: Beginning & { split?: number },
 ): Promise<Recorder>;
+
+/**
+ * Records to a medium, which is emptied; with `exclusive` one that isn't empty is an error. With `split` the recording
+ * continues in the media that `next` gives by their numbers, from 2 on. Each of them has to be empty. Where it can't be
+ * begun it is closed, and `write` is the error, which asks for the same number again when it is repeated.
+ */
+export function record(
+  medium: Medium,
+  format: Format & { bitsPerSample: number },
+  options?: Beginning & ({ split?: undefined } | { split: number; next: (number: number) => Medium | Promise<Medium> }),
+): Promise<Recorder>;
+
+export interface Recording {
+  /** Whether the samples of a checkpoint survive a power failure, and not a kill alone. */
+  durable?: boolean;
+  /**
+   * After how many milliseconds a write makes a checkpoint of all that was written before it. After one that took more
+   * than half of them the next one comes after twice its duration. So a recording keeps up with its source, however
+   * long a sync takes. Without it `flush` and `close` alone make checkpoints.
+   */
+  checkpoint?: number;
+}
+
+export interface Beginning extends Recording {
+  /** Whether a file that is there is an error. */
+  exclusive?: boolean;
+  /** What is before the samples. */
+  chunks?: Iterable<Chunk>;
+}
 
 /** A chunk: its name, which has four characters of ASCII and is neither "data" nor "fmt ", and its content. */
 export type Chunk = readonly [name: string, content: Uint8Array | ArrayBuffer];
 
-/** Records after the frames of a file at a path, in Node. What `append` rejects is an error. */
-export function appendTo(path: string | URL, options?: { durable?: boolean }): Promise<Recorder>;
+/** Records after the frames of a file at a path, in Node, or of a medium. What `append` rejects is an error. */
+export function appendTo(file: string | URL | Medium, options?: Recording): Promise<Recorder>;
 
 /**
- * Goes on with the recording at a path, in Node: for a program that has to start by itself again after a kill or a loss
- * of power. A recording that was cut off continues after all whole frames that it holds. A new one begins where no file
- * is, or one that holds a part of such a header and nothing else, as a kill leaves it. Where the header counts more
- * than the file holds, or a part of a frame, the file is repaired first. A file of another format is an error
- * ("OTHER_FORMAT"), and so are chunks or a tag after the data; then it stays as it is. A new file has the `chunks`
- * before its samples; those of one that is continued stay as they are.
+ * Goes on with the recording at a path, in Node, or in a medium: for a program that has to start by itself again after
+ * a kill or a loss of power. A recording that was cut off continues after all whole frames that it holds. A new one
+ * begins where no file is, or one that holds a part of such a header and nothing else, as a kill leaves it. Where the
+ * header counts more than the file holds, or a part of a frame, the file is repaired first. A file of another format is
+ * an error ("OTHER_FORMAT"), and so are chunks or a tag after the data; then it stays as it is. A new file has the
+ * `chunks` before its samples; those of one that is continued stay as they are.
  */
 export function continueFile(
-  path: string | URL,
+  file: string | URL | Medium,
   format: Format & { bitsPerSample: number },
-  options?: { durable?: boolean; chunks?: Iterable<Chunk> },
+  options?: Recording & { chunks?: Iterable<Chunk> },
 ): Promise<Recorder>;
 
 /**
@@ -319,8 +372,15 @@ export interface Recorder {
   readonly framesLeft: number;
   /** The number of the next frame, of all files with `split`: so many are written. */
   tell(): number;
-  /** With `split`, the files of the recording, by their absolute paths, the last of which is written; else none. */
-  readonly paths: (string | URL)[];
+  /** With `split`, the files of the recording, by their absolute paths, or their media, the last of which is written;
+      else none. */
+  readonly paths: (string | URL | Medium)[];
+  /**
+   * How many frames the last checkpoint counted, of all files with `split`; at least so many are kept, whatever comes.
+   * A sync that failed is final, because nobody knows what is stored then. Go on in another file with all frames from
+   * this number on, and so keep them until they are counted. Some of them may be counted in the older file, too.
+   */
+  readonly counted: number;
   /** Writes whole frames, as they are at the call. Floats are scaled where the file has integers. */
   write(samples: Samples, options?: Clipping): Promise<void>;
   /** Makes a checkpoint: the header counts all frames that are written. */

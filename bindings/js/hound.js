@@ -846,68 +846,146 @@ async function repairedFile(given, mode) {
   return { ...report, file };
 }
 
-async function readAt(handle, { place, length }) {
-  const bytes = new Uint8Array(length);
-  for (let count = 0; count < length;) {
-    const { bytesRead } = await handle.read(bytes, count, length - count, place + count);
-    if (bytesRead === 0) return bytes.subarray(0, count);
-    count += bytesRead;
+/** Runs a generator, each of whose yields becomes the value of what is yielded, and returns what it returns: a promise
+    only where a yielded value is one, because a promise takes longer than a short write. */
+function run(steps, step = steps.next()) {
+  while (!step.done) {
+    const { value } = step;
+    if (typeof value?.then === "function") {
+      return value.then((given) => run(steps, steps.next(given)), (error) => run(steps, steps.throw(error)));
+    }
+    step = steps.next(value);
   }
-  return bytes;
+  return step.value;
 }
+
+// A medium is what a file is recorded to or repaired in: it has these calls of a FileSystemSyncAccessHandle, each of
+// which may return a promise. A read or a write may do a part of what it is asked for.
+const CALLS = ["getSize", "read", "write", "truncate", "flush", "close"];
 
 // So many bytes are written at once, by this thread, because the way to another one and back takes longer. After a
 // write that took so many milliseconds a file is slow, and other threads write it. Where no call goes to another thread
 // Node's loop gets a turn after so many milliseconds.
 const [AT_ONCE, SLOW, TURN] = [1 << 16, 20, 5];
-const slow = new WeakSet();
 let turned = 0;
 
-/** Writes at a place, and returns a promise only where another thread does it. */
-function writeAt(handle, bytes, place) {
-  if (bytes.length > AT_ONCE || slow.has(handle)) return writeInThread(handle, bytes, place);
-  const start = performance.now();
-  for (let count = 0; count < bytes.length;) {
-    count += someOf(node.writeSync(handle.fd, bytes, count, bytes.length - count, place + count));
+/** A file of Node as a medium. */
+class NodeFile {
+  #handle;
+  #path;
+  #isSlow = false;
+
+  constructor(handle, path) {
+    this.#handle = handle;
+    this.#path = path;
   }
-  if (performance.now() - start > SLOW) slow.add(handle);
+
+  /** How long the file is. What isn't a regular file is an error, because no effect could be performed on it. */
+  async getSize() {
+    const found = await this.#handle.stat(), path = this.#path;
+    if (found.isFile()) return found.size;
+    throw Object.assign(new Error(`ESPIPE: this is no regular file, '${path}'`), { code: "ESPIPE", path });
+  }
+
+  async read(bytes, { at }) {
+    return (await this.#handle.read(bytes, 0, bytes.length, at)).bytesRead;
+  }
+
+  /** Writes, and returns a promise only where another thread does it. */
+  write(bytes, { at }) {
+    if (bytes.length > AT_ONCE || this.#isSlow) return this.#writeInThread(bytes, at);
+    const start = performance.now(), written = node.writeSync(this.#handle.fd, bytes, 0, bytes.length, at);
+    this.#isSlow = performance.now() - start > SLOW;
+    return written;
+  }
+
+  async #writeInThread(bytes, place) {
+    return (await this.#handle.write(bytes, 0, bytes.length, place)).bytesWritten;
+  }
+
+  truncate(size) {
+    return this.#handle.truncate(size);
+  }
+
+  flush() {
+    return this.#handle.sync();
+  }
+
+  close() {
+    return this.#handle.close();
+  }
+
+  /** Stores the name of the file, where the system opens folders. */
+  async flushName() {
+    if (process.platform === "win32") return;
+    const { open, realpath } = node.promises, name = await realpath(this.#path);
+    const folder = await open(name.slice(0, name.lastIndexOf("/") + 1));
+    await folder.sync().finally(() => folder.close());
+  }
 }
 
-async function writeInThread(handle, bytes, place) {
+/** The error where a medium can't do what it is asked for. */
+const notPerformed = (message) => Object.assign(new HoundError("NOT_PERFORMED"), { message });
+
+/** How many bytes a call of a medium says that it has read or written: an error unless it is from 1 to these. */
+function someOf(done, count, most) {
+  if (Number.isInteger(count) && count > 0 && count <= most) return count;
+  throw notPerformed(`of ${most} bytes the medium has ${done} ${count}`);
+}
+
+const areEqual = (one, other) => one.length === other.length && one.every((byte, i) => byte === other[i]);
+
+/** Reads so many bytes at a place, or fewer where the medium ends. */
+function* reading(medium, length, place) {
+  const bytes = new Uint8Array(length);
+  for (let count = 0; count < length;) {
+    const some = yield medium.read(bytes.subarray(count), { at: place + count });
+    if (some === 0) return bytes.subarray(0, count);
+    count += someOf("read", some, length - count);
+  }
+  return bytes;
+}
+
+/** Writes at a place, and reads it again unless it is a file of Node. Firefox 153 has a number returned on a full disk
+    that means nothing (32,721 of 10,000 bytes, of which 8,048 were there), and the header would count what isn't. */
+function* writing(medium, bytes, place) {
   for (let count = 0; count < bytes.length;) {
-    count += someOf((await handle.write(bytes, count, bytes.length - count, place + count)).bytesWritten);
+    const part = bytes.subarray(count);
+    count += someOf("written", yield medium.write(part, { at: place + count }), part.length);
+  }
+  if (medium instanceof NodeFile) return;
+  for (let count = 0; count < bytes.length; count += PAGE) {
+    const part = bytes.subarray(count, count + PAGE);
+    const held = yield* reading(medium, part.length, place + count);
+    if (!areEqual(held, part)) throw notPerformed("the medium doesn't hold what it says that it has written");
   }
 }
 
-function someOf(written) {
-  if (written === 0) throw new Error("nothing could be written");
-  return written;
+function* shortening(medium, place) {
+  if ((yield medium.getSize()) > place) yield medium.truncate(place);
+}
+
+/** Performs an effect on a medium, and returns a promise only where something has to be waited for. Without `durable`
+    nothing is synced: the system has what was written. Only a file of Node has a name that can be synced. */
+function performOn(medium, durable, { kind, place, length, bytes }, block) {
+  switch (kind) {
+    case READ: return run(reading(medium, length, place));
+    case WRITE: return run(writing(medium, bytes, place));
+    case WRITE_BLOCK: return run(writing(medium, block, place));
+    case SYNC: return durable ? medium.flush() : undefined;
+    case SHORTEN: return run(shortening(medium, place));
+    case SYNC_FOLDER: return durable && medium instanceof NodeFile ? medium.flushName() : undefined;
+    default: throw unknownEffect();
+  }
 }
 
 /** Gives Node's loop a turn where that is due, since a promise that is fulfilled already gives it none. */
 function turn() {
-  if (performance.now() - turned < TURN) return undefined;
+  if (typeof setImmediate === "undefined" || performance.now() - turned < TURN) return undefined;
   return new Promise((resolve) => setImmediate(() => {
     turned = performance.now();
     resolve();
   }));
-}
-
-async function shortenAt(handle, place) {
-  if ((await handle.stat()).size > place) await handle.truncate(place);
-}
-
-/** Performs an effect on a file of Node, and returns a promise only where something has to be waited for. Without
-    `durable` nothing is synced: the system has what was written. */
-function performOn(handle, durable, effect, block) {
-  switch (effect.kind) {
-    case READ: return readAt(handle, effect);
-    case WRITE: return writeAt(handle, effect.bytes, effect.place);
-    case WRITE_BLOCK: return writeAt(handle, block, effect.place);
-    case SYNC: return durable ? handle.sync() : undefined;
-    case SHORTEN: return shortenAt(handle, effect.place);
-    default: throw unknownEffect();
-  }
 }
 
 // What Node has for files, once `files` has loaded it.
@@ -922,44 +1000,63 @@ async function files() {
   return node.promises;
 }
 
-/** Opens a file by flags whose names these are. A FIFO isn't waited for, but found by `sizeOn`. */
+/** Opens a file by flags whose names these are. A FIFO isn't waited for, but found by its size. */
 function openAt({ constants, open }, path, ...flags) {
   return open(path, ["O_NONBLOCK", ...flags].reduce((sum, name) => sum | (constants[name] ?? 0), 0));
 }
 
-/** How long a file of Node is. What isn't a regular file is an error, because no effect could be performed on it. */
-async function sizeOn(handle, path) {
-  const found = await handle.stat();
-  if (found.isFile()) return found.size;
-  throw Object.assign(new Error(`ESPIPE: this is no regular file, '${path}'`), { code: "ESPIPE", path });
+/** Whether it is a path, as Node has them. What isn't is taken for a medium. */
+const isPath = (place) =>
+  typeof place !== "object" || place === null || place instanceof URL || ArrayBuffer.isView(place);
+
+/** An error unless it has the calls of a medium. What `createWritable` returns hasn't. */
+function checkMedium(medium) {
+  const missing = CALLS.filter((name) => typeof medium?.[name] !== "function");
+  if (missing.length === 0) return;
+  throw new TypeError(
+    `this is no medium, because it has no ${missing.join(", ")}: createSyncAccessHandle returns one in a worker, and ` +
+      "createWritable doesn't, because its file holds nothing before it is closed",
+  );
 }
 
-/** What a repairer of this mode finds in a file of Node, which it repairs. Each step is synced. */
-async function repairAt(path, flag, mode) {
-  const handle = await openAt(await files(), path, flag);
+/** The medium that is given, or a file at a path, in Node, which is opened by these flags. */
+async function mediumAt(place, ...flags) {
+  if (isPath(place)) return new NodeFile(await openAt(await files(), place, ...flags), place);
+  checkMedium(place);
+  await ready();
+  return place;
+}
+
+/** Does something with the medium that is given, which stays open, or with a file at a path, which is closed then. */
+async function withMedium(place, flag, task) {
+  const medium = await mediumAt(place, flag);
   try {
-    const size = await sizeOn(handle, path);
-    const { report } = await repairBy(size, mode, (effect) => performOn(handle, true, effect));
-    return report;
+    return await task(medium);
   } finally {
-    await handle.close();
+    if (medium !== place) await medium.close();
   }
 }
 
-/** Repairs a file at a path in place, in Node, and returns how it was found. */
-export async function repairFile(path, options = {}) {
-  return repairAt(path, "O_RDWR", modeOf(checkedOptions(options, ["toEnd", "canonical"])));
+/** What a repairer of this mode finds in a medium, which it repairs. Each step is synced. */
+async function repairOn(medium, mode) {
+  return repairBy(await medium.getSize(), mode, (effect) => performOn(medium, true, effect));
+}
+
+/** Repairs a file at a path, in Node, or a medium in place, and returns how it was found. */
+export async function repairFile(place, options = {}) {
+  const mode = modeOf(checkedOptions(options, ["toEnd", "canonical"]));
+  return withMedium(place, "O_RDWR", async (medium) => (await repairOn(medium, mode)).report);
 }
 
 /** Reports what `repairFile` would find, or fails as it would; the file may be read-only. */
-export async function findDamageInFile(path, options = {}) {
+export async function findDamageInFile(place, options = {}) {
   checkedOptions(options, []);
-  return repairAt(path, "O_RDONLY", FIND_DAMAGE);
+  return withMedium(place, "O_RDONLY", async (medium) => (await repairOn(medium, FIND_DAMAGE)).report);
 }
 
-/** The recorder that appends to a file of so many bytes, and its spec, which may have to continue another one. */
-async function resumed(size, perform, allowed, spec) {
-  const { found, report } = await repairBy(size, FIND_DAMAGE, perform), recorder = new Machine("recorder");
+/** The recorder that appends to a file in which this was found, and its spec, which may have to continue another. */
+function resumed({ found, report }, allowed, spec) {
+  const recorder = new Machine("recorder");
   if (spec) checkContinues(spec, report);
   shared.bytes.set(found, FOUND);
   checked(recorder.call("recorder_resume", shared.at(FOUND), allowed, shared.at(MACHINE)));
@@ -976,7 +1073,7 @@ function checkContinues(spec, held) {
 
 /** A file that is recorded. What is requested of it is performed one after the other. */
 class Recorder {
-  #handle;
+  #medium;
   #machine;
   #durable;
   #noise;
@@ -985,35 +1082,41 @@ class Recorder {
   #room; // What a block was in that is written: the next one is, too.
   #closing;
   #most; // How many frames a file has at most, where the recording continues in a next one.
-  #paths = []; // The files of such a recording.
+  #places = []; // The files of such a recording.
   #before = 0; // How many frames are in those before the last one.
-  #next; // What makes the next one, and removes it.
+  #begin; // What begins the next one.
+  #counted; // How many frames the last checkpoint counted.
+  #interval; // How many milliseconds are between two checkpoints, where a write makes them.
+  #due; // When the next one is.
 
-  constructor(handle, durable, { recorder, spec }) {
-    this.#handle = handle;
+  constructor(medium, { durable = false, checkpoint = Infinity }, { recorder, spec }) {
+    this.#medium = medium;
     this.#durable = durable;
+    this.#interval = checkpoint;
     this.#machine = recorder;
     this.spec = Object.freeze(spec);
   }
 
   /** A file that is recorded, once what its recorder begins with is performed. */
-  static async begin(handle, durable, given) {
-    const recorder = new Recorder(handle, durable, given);
+  static async begin(medium, how, given) {
+    const recorder = new Recorder(medium, how, given);
     await recorder.#performAll();
+    recorder.#counted = recorder.tell();
+    recorder.#due = performance.now() + recorder.#interval;
     return recorder;
   }
 
-  /** Lets the recording at a path continue in a next file after so many frames, or as many as have room. */
-  static split(recorder, frames, path, next) {
+  /** Lets a recording continue in a next file, which `begin` begins, after so many frames, or as many as have room. */
+  static split(recorder, frames, place, begin) {
     recorder.#most = Math.min(frames, recorder.framesLeft);
-    recorder.#paths.push(path);
-    recorder.#next = next;
+    recorder.#places.push(place);
+    recorder.#begin = begin;
     return recorder;
   }
 
   /** With `split`, the files of the recording, the last of which is written. */
   get paths() {
-    return [...this.#paths];
+    return [...this.#places];
   }
 
   get #frameBytes() {
@@ -1036,6 +1139,12 @@ class Recorder {
     return this.#before + this.#held;
   }
 
+  /** How many frames the last checkpoint counted; with `split`, in all files. After a sync that failed those from this
+      number on have to be recorded to another file. */
+  get counted() {
+    return this.#counted;
+  }
+
   /** Writes whole frames after the last ones. After a write that failed it makes a checkpoint first. The seed of
       `dither` is that of the first block that has it. */
   async write(samples, options = {}) {
@@ -1046,16 +1155,18 @@ class Recorder {
     this.#room = undefined;
     const { data, clipped } = encoded(given, this.spec, first && (this.#noise ??= first), room);
     if (clipped > 0) onClipped(clipped);
-    const waits = this.#queue(() => this.#writeBlock(data, given.count));
+    const waits = this.#queue(() => run(this.#writing(data, given.count)));
     if (waits) await waits;
     if (data.length <= BLOCK_BYTES) this.#room = new Uint8Array(data.buffer);
   }
 
-  /** Writes a block, in next files what has no room in this one. */
-  #writeBlock(data, count) {
+  /** Writes a block, in next files what has no room in this one. A checkpoint that is due comes first, so that the
+      block is in no file where that is an error. */
+  *#writing(data, count) {
+    if (performance.now() >= this.#due) yield this.#checkpoint();
     const frames = count / this.spec.channels;
     const isHere = this.#most === undefined || !Number.isInteger(frames) || frames <= this.framesLeft;
-    return isHere ? this.#perform("recorder_write", data, count) : this.#writeInFiles(data);
+    yield isHere ? this.#perform("recorder_write", data, count) : this.#writeInFiles(data);
   }
 
   /** Writes whole frames, in a next file where they have no room in this one. A block that is larger than a file may be
@@ -1082,25 +1193,38 @@ class Recorder {
 
   /** Continues in the next file, which is made and begun before this one is ended. */
   async #continue() {
-    const path = pathOfPart(this.#paths[0], this.#paths.length + 1), { begin, remove } = this.#next;
-    const following = await begin(path);
+    const { place, recorder, discard } = await this.#begin(this.#places.length + 1);
     try {
-      await this.#perform("recorder_checkpoint");
+      await this.#checkpoint();
     } catch (error) {
-      await following.#handle.close().then(() => remove(path)).catch(() => {});
+      await discard(recorder.#medium).catch(() => {});
       throw error;
     }
-    const older = this.#handle;
+    const older = this.#medium;
     this.#before = this.tell();
-    [this.#handle, this.#machine] = [following.#handle, following.#machine];
-    this.#paths.push(path);
+    [this.#medium, this.#machine] = [recorder.#medium, recorder.#machine];
+    this.#places.push(place);
     await older.close();
   }
 
   /** Makes a checkpoint: the header counts all frames that are written. */
   async flush() {
     this.#checkOpen();
-    return this.#queue(() => this.#perform("recorder_checkpoint"));
+    return this.#queue(() => this.#checkpoint());
+  }
+
+  #checkpoint() {
+    return run(this.#checkpointing());
+  }
+
+  /** Makes a checkpoint. Where a write makes the next one, that is due after at least twice the time that this one has
+      taken, so that a recording keeps up with its source where syncs are slow. */
+  *#checkpointing() {
+    const begun = performance.now();
+    yield this.#perform("recorder_checkpoint");
+    const ended = performance.now();
+    this.#counted = this.tell();
+    this.#due = ended + Math.max(this.#interval, 2 * (ended - begun));
   }
 
   /** Makes a checkpoint and closes the file, after an error, too. */
@@ -1111,9 +1235,9 @@ class Recorder {
 
   async #end() {
     try {
-      await this.#perform("recorder_checkpoint");
+      await this.#checkpoint();
     } finally {
-      await this.#handle.close();
+      await this.#medium.close();
     }
   }
 
@@ -1137,17 +1261,19 @@ class Recorder {
     return this.#performAll(block);
   }
 
+  #performAll(block) {
+    return run(this.#performing(block));
+  }
+
   /** Performs what is requested. What fails is reported as failed, and the first fault is the error if the recorder
       says so. */
-  #performAll(block, fault) {
+  *#performing(block) {
     const machine = this.#machine;
-    let code;
+    let code, fault;
     while ((code = machine.call("recorder_next", shared.at(MACHINE))) === 1) {
       const { effect } = machine;
       try {
-        const performed = performOn(this.#handle, this.#durable, effect, block);
-        if (performed) return this.#performRest(performed, effect, block, fault);
-        machine.report(effect);
+        machine.report(effect, yield performOn(this.#medium, this.#durable, effect, block));
       } catch (error) {
         fault ??= error;
         machine.fail();
@@ -1155,37 +1281,22 @@ class Recorder {
     }
     if (code < 0) throw fault ?? errorOf(code);
   }
-
-  /** The same once an effect has ended that is under way. */
-  async #performRest(performed, effect, block, fault) {
-    try {
-      await performed;
-      this.#machine.report(effect);
-    } catch (error) {
-      fault ??= error;
-      this.#machine.fail();
-    }
-    return this.#performAll(block, fault);
-  }
 }
 
-/** Opens a file by these flags, and closes it again if it can't be recorded to. */
-async function recorderOf(path, flags, durable, prepare) {
-  const fs = await files(), handle = await openAt(fs, path, "O_RDWR", ...flags);
+const RECORDING_OPTIONS = ["durable", "checkpoint"];
+
+/** The recorder that `prepare` gives of a medium, or of a file at a path, which these flags open, and which is closed
+    again if it can't be recorded to. */
+async function recorderOf(place, flags, { durable = false, checkpoint = Infinity }, prepare) {
+  if (checkpoint !== Infinity) integer("checkpoint", checkpoint, 1, 0x7fffffff);
+  const medium = await mediumAt(place, "O_RDWR", ...flags);
   try {
-    await sizeOn(handle, path);
-    return await Recorder.begin(handle, durable, await prepare(handle, () => durable && syncFolder(fs, path)));
+    const size = await medium.getSize();
+    return await Recorder.begin(medium, { durable, checkpoint }, await prepare(medium, durable, size));
   } catch (error) {
-    await handle.close();
+    if (medium !== place) await medium.close();
     throw error;
   }
-}
-
-/** Stores the name of a file, where the system opens folders. */
-async function syncFolder({ open, realpath }, path) {
-  if (process.platform === "win32") return;
-  const name = await realpath(path), folder = await open(name.slice(0, name.lastIndexOf("/") + 1));
-  await folder.sync().finally(() => folder.close());
 }
 
 /** The effects with which a file begins, with this header or that of its spec. Writes that follow one another are one,
@@ -1205,19 +1316,17 @@ function beginningOf(spec, header) {
 }
 
 /** Begins a file with this header, or that of the spec, and returns its recorder. */
-async function beginOn(handle, durable, syncName, given, header) {
-  for (const effect of beginningOf(given.spec, header)) {
-    await (effect.kind === SYNC_FOLDER ? syncName() : performOn(handle, durable, effect));
-  }
-  return header ? resumedOn(handle, durable, syncName, 0, given.spec) : given;
+async function beginOn(medium, durable, given, header) {
+  for (const effect of beginningOf(given.spec, header)) await performOn(medium, durable, effect);
+  return header ? resumedOn(medium, durable, 0, given.spec) : given;
 }
 
-/** Whether a file is less than the header with which a new one begins, and equal to it as far as it goes: then it holds
-    no sample. */
-async function isUnbegun(handle, spec, header) {
-  const { place, bytes } = beginningOf(spec, header).find(({ kind }) => kind === WRITE), { size } = await handle.stat();
+/** Whether a file of so many bytes is less than the header with which a new one begins, and equal to it as far as it
+    goes: then it holds no sample. */
+async function isUnbegun(medium, size, spec, header) {
+  const { place, bytes } = beginningOf(spec, header).find(({ kind }) => kind === WRITE);
   if (place !== 0 || size >= bytes.length) return false;
-  return (await readAt(handle, { place, length: size })).every((byte, i) => byte === bytes[i]);
+  return areEqual(await run(reading(medium, size, 0)), bytes.subarray(0, size));
 }
 
 /** The path of a further file of a recording, as take-002.wav is the second one of take.wav. */
@@ -1238,30 +1347,61 @@ async function checkPart({ access, constants, lstat }, path) {
   await access(folder, constants.W_OK | constants.X_OK);
 }
 
+/** What begins the next files of a recording at a path. Each mustn't be there, and is removed after an error. */
+function filesAfter(fs, first, format, how) {
+  return async (number) => {
+    const place = pathOfPart(first, number), remove = () => fs.unlink(place);
+    await checkPart(fs, place);
+    const recorder = await recordOne(place, format, { ...how, exclusive: true }).catch(async (error) => {
+      if (error.code !== "EEXIST") await remove().catch(() => {});
+      throw error;
+    });
+    return { place, recorder, discard: (file) => file.close().then(remove) };
+  };
+}
+
+/** What begins the next media of a recording, which `next` gives by their numbers. Each of them has to be empty, and is
+    empty and closed after an error. */
+function mediaFrom(next, format, how) {
+  return async (number) => {
+    const place = await next(number);
+    checkMedium(place);
+    const discard = async () => {
+      await place.truncate(0);
+      await place.close();
+    };
+    try {
+      return { place, recorder: await recordOne(place, format, { ...how, exclusive: true }), discard };
+    } catch (error) {
+      await (error.code === "EEXIST" ? place.close() : discard().catch(() => {}));
+      throw error;
+    }
+  };
+}
+
 /**
- * Records to a file at a path, in Node. A file that is there is emptied; with `exclusive` it is an error.
+ * Records to a file at a path, in Node, or to a medium. What is there is emptied; with `exclusive` it is an error.
  *
  * With `split` a file has at most so many frames, and never more than have room. The recording of take.wav continues in
  * take-002.wav, take-003.wav and so on, each of which mustn't be there: of the second one that is looked at first, of
- * each before the file before it is ended. They stay in one folder, wherever the program changes to.
+ * each before the file before it is ended. They stay in one folder, wherever the program changes to. Media are those
+ * that `next` gives.
  *
- * Each file has the `chunks` before its samples, which are pairs of a name and its content.
+ * Each file has the `chunks` before its samples, which are pairs of a name and its content. With `checkpoint` a write
+ * makes a checkpoint first where the last one was so many milliseconds ago.
  */
-export async function record(path, format, options = {}) {
-  const { split, ...how } = checkedOptions(options, ["durable", "exclusive", "split", "chunks"]);
-  if (split === undefined) return recordOne(path, format, how);
+export async function record(place, format, options = {}) {
+  const names = [...RECORDING_OPTIONS, "exclusive", "split", "chunks", ...isPath(place) ? [] : ["next"]];
+  const { split, next, ...how } = checkedOptions(options, names);
+  if (split === undefined) return recordOne(place, format, how);
   if (split !== Infinity) integer("split", split, 1, Number.MAX_SAFE_INTEGER);
-  const fs = await files(), first = path instanceof URL ? path : (await nodePaths()).resolve(String(path));
-  const remove = (name) => fs.unlink(name);
-  const begin = async (name) => {
-    await checkPart(fs, name);
-    return recordOne(name, format, { ...how, exclusive: true }).catch(async (error) => {
-      if (error.code !== "EEXIST") await remove(name).catch(() => {});
-      throw error;
-    });
-  };
+  if (!isPath(place)) {
+    if (typeof next !== "function") throw new TypeError("next is no function, which gives the media after the first");
+    return Recorder.split(await recordOne(place, format, how), split, place, mediaFrom(next, format, how));
+  }
+  const fs = await files(), first = place instanceof URL ? place : (await nodePaths()).resolve(String(place));
   await checkPart(fs, pathOfPart(first, 2));
-  return Recorder.split(await recordOne(first, format, how), split, first, { begin, remove });
+  return Recorder.split(await recordOne(first, format, how), split, first, filesAfter(fs, first, format, how));
 }
 
 /** The recorder of a new file of this spec. */
@@ -1274,44 +1414,47 @@ function begun(given) {
 }
 
 /** Records to one file. */
-async function recordOne(path, format, { durable = false, exclusive = false, chunks }) {
+async function recordOne(place, format, { exclusive = false, chunks, ...how }) {
   const spec = specFor({}, format ?? {}), flags = exclusive ? ["O_CREAT", "O_EXCL"] : ["O_CREAT"];
-  await files();
+  await ready();
   const given = begun(spec), header = headerWith(spec, chunks);
-  return recorderOf(path, flags, durable, (handle, syncName) => beginOn(handle, durable, syncName, given, header));
+  return recorderOf(place, flags, how, (medium, durable, size) => {
+    if (exclusive && size > 0) throw Object.assign(new Error("EEXIST: the medium isn't empty"), { code: "EEXIST" });
+    return beginOn(medium, durable, given, header);
+  });
 }
 
-/** The recorder that appends to a file of Node, and its spec. */
-async function resumedOn(handle, durable, syncName, allowed, spec) {
-  if (durable) await handle.sync();
-  await syncName();
-  return resumed((await handle.stat()).size, (effect) => performOn(handle, durable, effect), allowed, spec);
+/** The recorder that appends to a file, and its spec, which may have to continue another one. */
+async function resumedOn(medium, durable, allowed, spec) {
+  for (const kind of [SYNC, SYNC_FOLDER]) await performOn(medium, durable, { kind });
+  return resumed(await repairOn(medium, FIND_DAMAGE), allowed, spec);
 }
 
-/** Continues a recording at a path, in Node, after the frames of the file. What `append` rejects is an error. */
-export async function appendTo(path, options = {}) {
-  const { durable = false } = checkedOptions(options, ["durable"]);
-  return recorderOf(path, [], durable, (handle, syncName) => resumedOn(handle, durable, syncName, 0));
+/** Continues a recording in a file at a path, in Node, or in a medium, after its frames. What `append` rejects is an
+    error. */
+export async function appendTo(place, options = {}) {
+  const how = checkedOptions(options, RECORDING_OPTIONS);
+  return recorderOf(place, [], how, (medium, durable) => resumedOn(medium, durable, 0));
 }
 
 /**
- * Goes on with the recording at a path, in Node, whatever a kill or a loss of power has left of it: after all whole
- * frames of one that was cut off, or from the start where no file is, or one that holds less than the header of a new
- * one and nothing else. Where the header counts more than the file holds, or a part of a frame, the file is repaired
- * first, because a recorder never cuts off what is counted. A file of another spec is an error, and stays as it is. A
- * new file has the `chunks` before its samples; those of one that is continued stay as they are.
+ * Goes on with the recording at a path, in Node, or in a medium, whatever a kill or a loss of power has left of it:
+ * after all whole frames of one that was cut off, or from the start where no file is, or one that holds less than the
+ * header of a new one and nothing else. Where the header counts more than the file holds, or a part of a frame, the
+ * file is repaired first, because a recorder never cuts off what is counted. A file of another spec is an error, and
+ * stays as it is. A new file has the `chunks` before its samples; those of one that is continued stay as they are.
  */
-export async function continueFile(path, format, options = {}) {
-  const { durable = false, chunks } = checkedOptions(options, ["durable", "chunks"]);
+export async function continueFile(place, format, options = {}) {
+  const { chunks, ...how } = checkedOptions(options, [...RECORDING_OPTIONS, "chunks"]);
   const spec = specFor({}, format ?? {});
-  await files();
+  await ready();
   const given = begun(spec), header = headerWith(spec, chunks);
-  return recorderOf(path, ["O_CREAT"], durable, async (handle, syncName) => {
-    if (await isUnbegun(handle, given.spec, header)) return beginOn(handle, durable, syncName, given, header);
-    const resume = () => resumedOn(handle, durable, syncName, MEND, given.spec);
+  return recorderOf(place, ["O_CREAT"], how, async (medium, durable, size) => {
+    if (await isUnbegun(medium, size, given.spec, header)) return beginOn(medium, durable, given, header);
+    const resume = () => resumedOn(medium, durable, MEND, given.spec);
     return resume().catch(async (error) => {
       if (!["TRUNCATED", "UNFINISHED_FRAME"].includes(error.code)) throw error;
-      await repairBy((await handle.stat()).size, REPAIR, (effect) => performOn(handle, true, effect));
+      await repairOn(medium, REPAIR);
       return resume();
     });
   });
@@ -1333,12 +1476,14 @@ function readNow(handle, { place, length }) {
 /** A file that another program records. */
 class Followed {
   #handle;
+  #file;
   #machine = new Machine("follower");
   #given = 0; // How many bytes of samples were given.
   #tail = new Uint8Array(0); // The last of them.
 
-  constructor(handle) {
+  constructor(handle, file) {
     this.#handle = handle;
+    this.#file = file;
   }
 
   get #dataStart() {
@@ -1409,7 +1554,7 @@ class Followed {
   /** The containers of the next frames that are counted, at most so many; none where it is another recording now. */
   async take(frames) {
     const { channels, bytesPerSample } = this.spec, length = Math.min(frames * channels * bytesPerSample, this.#left);
-    const bytes = await readAt(this.#handle, { place: this.#dataStart + this.#given, length });
+    const bytes = await run(reading(this.#file, length, this.#dataStart + this.#given));
     if (bytes.length < length || !this.#isSame()) this.#replaced();
     if (this.#left === 0) return new Uint8Array(0);
     this.#given += length;
@@ -1443,9 +1588,10 @@ export async function* follow(path, options = {}) {
   const fs = await files(), first = path instanceof URL ? path : (await nodePaths()).resolve(String(path));
   for (let number = 1, name = first; name; number += 1) {
     const handle = await openAt(fs, name, "O_RDONLY"), next = pathOfPart(first, number + 1);
+    const file = new NodeFile(handle, name);
     try {
-      await sizeOn(handle, name);
-      yield* framesOf(new Followed(handle), frames, how, async (since) => {
+      await file.getSize();
+      yield* framesOf(new Followed(handle, file), frames, how, async (since) => {
         await pause(poll);
         return performance.now() - since < idle || await isLocked(fs, handle);
       });
@@ -1514,7 +1660,7 @@ export async function append(file, samples, options = {}) {
   const noise = noiseOf({ dither, seed });
   await ready();
   const { recorder: before, spec, parts = [given] } =
-    made.get(given) ?? await resumed(sizeOf(given), readerOf(given), overwrite ? OVERWRITE : 0);
+    made.get(given) ?? resumed(await repairBy(sizeOf(given), FIND_DAMAGE, readerOf(given)), overwrite ? OVERWRITE : 0);
   checkChannels(block.channels, spec.channels);
   const recorder = new Machine("recorder"), overlay = new Overlay(parts);
   const { data, clipped } = encoded(block, spec, noise);

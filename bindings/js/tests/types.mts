@@ -3,7 +3,7 @@ import {
   HoundError, append, appendTo, continueFile, findDamage, findDamageInFile, info, read, record, repair, repairFile,
   write,
 } from "../hound.js";
-import type { Damage, Info, Recorder } from "../hound.js";
+import type { Damage, Info, Medium, Recorder } from "../hound.js";
 
 export async function uses(blob: Blob, bytes: Uint8Array): Promise<string> {
   const wide: Int32Array = await read(blob, { type: "int32", start: 1, frames: 2 });
@@ -39,4 +39,27 @@ export async function uses(blob: Blob, bytes: Uint8Array): Promise<string> {
   // @ts-expect-error: the rate is missing.
   await write(wide, { channels: 2 });
   return found.state === "cutOff" ? new HoundError("NEEDS_MEND").code : `${head.frames} ${head.isFloat} ${held}`;
+}
+
+/** A medium of one's own, and one of a browser, where that has it: its calls return no promises. */
+export async function over(medium: Medium, handle: AccessHandle): Promise<number> {
+  const format = { sampleRate: 8000, bitsPerSample: 16 };
+  const recorder: Recorder = await record(medium, format, { durable: true, checkpoint: 1 });
+  await (await appendTo(handle, { checkpoint: 1000 })).close();
+  await (await continueFile(handle, recorder.spec, { chunks: [] })).close();
+  const next = async (number: number): Promise<Medium> => number === 2 ? medium : handle;
+  await record(handle, recorder.spec, { split: 100, next });
+  // @ts-expect-error: nothing gives the next medium.
+  await record(handle, recorder.spec, { split: 100 });
+  // @ts-expect-error: a path has its next files by its name.
+  await record("take.wav", recorder.spec, { split: 100, next });
+  return (await findDamageInFile(handle)).frames + (await repairFile(medium)).frames + recorder.counted;
+}
+interface AccessHandle {
+  getSize(): number;
+  read(bytes: ArrayBufferView, options?: { at?: number }): number;
+  write(bytes: ArrayBufferView, options?: { at?: number }): number;
+  truncate(size: number): void;
+  flush(): void;
+  close(): void;
 }
