@@ -185,7 +185,7 @@ export async function firefox({profile, saved, settings = {}, preload = "", hasD
   fs.mkdirSync(profile, {recursive: true});
   fs.writeFileSync(path.join(profile, "user.js"),
     Object.entries(all).map(([name, value]) => `user_pref("${name}", ${JSON.stringify(value)});\n`).join(""));
-  const screen = hasDisplay && await display();
+  const screen = hasDisplay ? await display() : null;
   if (hasDisplay && !screen) {
     console.log("page: passed over, since Xvfb, xdotool or GTK for Python isn't here: drops in Firefox");
   }
