@@ -55,6 +55,8 @@ make_python() { # OUT
     PYTHONPATH=bindings/python python3 -c 'import backend; print(backend.METADATA, end="")' > "$sdist/PKG-INFO"
     mkdir "$sdist/c"
     cp bindings/c/hound.h bindings/c/hound_c.c "$sdist/c"
+    mkdir -p "$sdist/js/page"
+    cp bindings/js/page/{hound,record}.html "$sdist/js/page"
     carry "$sdist"
     pack "$sdist" "$1"
 }

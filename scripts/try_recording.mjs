@@ -17,6 +17,7 @@ const {values: {kills, pictures, only}} =
   parseArgs({options: {kills: {type: "string", default: "10"}, pictures: {type: "string"}, only: {type: "string"}}});
 const COMMAND = path.join(process.env.TRY_PACKAGE ?? fileURLToPath(new URL("../bindings/js", import.meta.url)), "command.js");
 const PORT = 20000 + process.pid % 10000, URL_OF_PAGE = `http://127.0.0.1:${PORT}/record.html`;
+const PAGE = fs.readFileSync(path.join(path.dirname(COMMAND), "page", "record.html"), "utf8");
 const work = fs.mkdtempSync(path.join(os.tmpdir(), "try_recording-")), SAVED = path.join(work, "saved");
 // So many frames have numbers of their own, at this rate.
 const [NUMBERS, RATE] = [2 ** 20, 48000];
@@ -56,7 +57,13 @@ function prepare(count, rate, edits) {
   });
 }
 
-const preparation = (edits) => `(${prepare})(${NUMBERS}, ${RATE}, ${JSON.stringify(edits)})`;
+function preparation(edits) {
+  for (const [from] of edits) must(PAGE.includes(from), `the page has no text ${from}`);
+  return `(${prepare})(${NUMBERS}, ${RATE}, ${JSON.stringify(edits)})`;
+}
+
+// The page with a checkpoint each tenth of a second, so that kills meet more of them.
+const FAST = [["[EVERY, RETRY] = [1e3, 1e3]", "[EVERY, RETRY] = [100, 1e3]"]];
 const alive = (group) =>
   fs.readdirSync("/proc").filter((name) => /^\d+$/.test(name)).map(Number).filter((id) => belongs(id, group));
 
@@ -94,6 +101,7 @@ for (const signal of ["SIGINT", "SIGTERM"]) process.on(signal, () => process.exi
 const BROWSERS = [
   {
     program: "chromium",
+    share: 0.6, // Of the kills, each of which takes more time in Firefox.
     async start(profile, edits, isReal) {
       const asked = ["--use-fake-device-for-media-stream", ...(isReal ? [] : ["--use-fake-ui-for-media-stream"])];
       const flags = ["--no-first-run", "--disable-extensions", "--autoplay-policy=no-user-gesture-required", ...asked];
@@ -108,6 +116,7 @@ const BROWSERS = [
   },
   {
     program: "firefox-esr",
+    share: 0.4,
     async start(profile, edits) {
       const settings = {
         "media.autoplay.default": 0,
@@ -258,16 +267,22 @@ async function check(browser, stored) {
 
 const WAYS = ["browser", "all", "tab"];
 
+/** A browser with a new profile, on the page. */
+async function openNew(kind, edits = []) {
+  const folder = fs.mkdtempSync(path.join(work, `${kind.program}-`));
+  const browser = Object.assign(await open(kind, path.join(folder, "0"), edits), {edits});
+  await show(browser);
+  return browser;
+}
+
 /** Kills while it records: at once when a checkpoint is reported, or at some time after it. */
 async function tryKills(kind, count, edits = []) {
   const sums = {kills: 0, frames: 0, beyond: 0};
-  let browser = await open(kind, path.join(work, `${kind.program}-0`), edits);
-  browser.edits = edits;
-  await show(browser);
+  let browser = await openNew(kind, edits);
   for (let round = 0; round < count; round++) {
     browser.stored = 0;
     await startRecording(browser);
-    const checkpoints = round % 4, wait = round % 2 ? 0 : Math.random() * 1200;
+    const checkpoints = [1, 2, 0, 3][round % 4], wait = round % 2 ? 0 : Math.random() * 1200;
     for (let i = 0, last = 0; i < checkpoints; i++) last = await until(() => browser.stored > last && browser.stored);
     await pause(wait);
     browser = await killAndOpen(browser, WAYS[round % 3]);
@@ -279,9 +294,10 @@ async function tryKills(kind, count, edits = []) {
     sums.beyond = Math.max(sums.beyond, frames - browser.storedBefore);
     if (sums.kills % 20 === 0) console.log(`recording: ${sums.kills} kills so far`);
   }
-  await browser.close();
   await killAll(browser);
-  console.log(`recording: ${sums.kills} kills in ${browser.name}, after which ${(sums.frames / RATE).toFixed(0)} s were whole, and at most ${(sums.beyond / RATE).toFixed(2)} s were there beyond what was reported`);
+  const how = edits.length ? " with a checkpoint each 0.1 s" : "", seconds = (frames) => (frames / RATE).toFixed(2);
+  console.log(`recording: ${sums.kills} kills in ${browser.name}${how}, after which all ${
+    seconds(sums.frames)} s were right, and at most ${seconds(sums.beyond)} s of one were more than reported`);
 }
 
 async function serving() {
@@ -299,7 +315,9 @@ async function main() {
       console.log(`recording: passed over, since ${kind.program} isn't here`);
       continue;
     }
-    await tryKills(kind, Number(kills));
+    const count = Math.round(kind.share * kills);
+    await tryKills(kind, Math.ceil(count / 2));
+    await tryKills(kind, Math.floor(count / 2), FAST);
   }
 }
 

@@ -1,7 +1,8 @@
 """Builds the wheel of this folder with Python alone, so that `pip install` needs no network: it has the
 shared library that ../lib has for this processor. Where ../lib has none, as for an x86-64 that isn't x86-64-v2, or
 with HOUND_C_SOURCE in the environment, a C compiler makes one of ../c/hound_c.c, and with HOUND_C_LIB of the static
-library in that folder. An sdist has lib and c in this folder."""
+library in that folder. The pages that the command serves are those of ../js/page. An sdist has lib, c and js in this
+folder."""
 import base64
 import hashlib
 import os
@@ -21,6 +22,7 @@ NAME, VERSION = "hound_bindings", "0.2.0"
 IS_SDIST = os.path.exists(os.path.join(HERE, "PKG-INFO"))
 BINDINGS = HERE if IS_SDIST else os.path.dirname(HERE)
 LICENSE = os.path.join(HERE if IS_SDIST else os.path.dirname(BINDINGS), "LICENSE")
+PAGES = os.path.join(BINDINGS, "js", "page")
 HEADER, SOURCE = os.path.join(BINDINGS, "c", "hound.h"), os.path.join(BINDINGS, "c", "hound_c.c")
 PROCESSOR = runpy.run_path(os.path.join(HERE, NAME, "processor.py"))
 # What the libraries of ../lib need that not each such processor has.
@@ -146,6 +148,9 @@ def build_wheel(wheel_directory, config_settings=None, metadata_directory=None):
     tag, files = wheel_tag(), {}
     for name in sorted(name for name in os.listdir(os.path.join(HERE, NAME)) if name.endswith((".py", ".typed"))):
         with open(os.path.join(HERE, NAME, name), "rb") as file:
+            files[f"{NAME}/{name}"] = file.read()
+    for name in "hound.html", "record.html":
+        with open(os.path.join(PAGES, name), "rb") as file:
             files[f"{NAME}/{name}"] = file.read()
     with tempfile.TemporaryDirectory() as folder:
         library = shared_library(folder)
