@@ -35,12 +35,6 @@ step() { # WHAT COMMAND..
     echo "release: $1"
 }
 
-# Copies the license and the libraries to a package.
-carry() { # FOLDER
-    cp -r LICENSE bindings/lib "$1"
-    rm "$1"/lib/*.wasm
-}
-
 # Writes the archive of a folder.
 pack() { # FOLDER OUT
     tar --create --sort=name --format=ustar --mtime="@$epoch" --owner=0 --group=0 --numeric-owner \
@@ -48,15 +42,8 @@ pack() { # FOLDER OUT
 }
 
 make_python() { # OUT
-    local sdist=python/hound_bindings-$version
-    PYTHONPATH=bindings/python python3 -c 'import backend, sys; backend.build_wheel(sys.argv[1])' "$1"
-    mkdir -p "$sdist"
-    cp -r bindings/python/{backend.py,pyproject.toml,README.md,hound_bindings} "$sdist"
-    PYTHONPATH=bindings/python python3 -c 'import backend; print(backend.METADATA, end="")' > "$sdist/PKG-INFO"
-    mkdir "$sdist/c"
-    cp bindings/c/hound.h bindings/c/hound_c.c "$sdist/c"
-    carry "$sdist"
-    pack "$sdist" "$1"
+    PYTHONPATH=bindings/python python3 -c \
+        'import backend, sys; backend.build_wheel(sys.argv[1]); backend.build_sdist(sys.argv[1])' "$1"
 }
 make_npm() { # OUT
     cd bindings/js

@@ -474,7 +474,7 @@ if has python3 "the Python package" && has "$cc" "the Python package"; then
     check "where HOUND_C_LIB has no library, a line says so" no_library
     if python3 -c 'import ensurepip, venv' 2> /dev/null; then
         check "pip installs the Python package from a clone, here without a C compiler" python_installed
-        check "the tests of the Python package" python_tests files streams resuming following floats command
+        check "the tests of the Python package" python_tests files streams resuming following floats command serving
         check "pip installs the command hound-wav, and its page for man" command_installed
         check "those of files and floats over the library that is compiled from hound_c.c" python_by_source
         has sox "guesses of lost headers" && is_node_20 \

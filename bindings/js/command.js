@@ -1,21 +1,24 @@
 #!/usr/bin/env node
-// Looks at files, or repairs them in place.
+// Looks at files, or repairs them in place; or serves the pages that record and repair in a browser.
 import { createWriteStream, openAsBlob } from "node:fs";
 import { open, stat, unlink } from "node:fs/promises";
 import { Readable } from "node:stream";
 import { pipeline } from "node:stream/promises";
 import { SEARCHED_LENGTH, chunksAtEnd } from "./guess.js";
 import { findDamageInFile, guess, repair as repaired, repairFile } from "./hound.js";
+import { USUAL_PORT, serve } from "./serve.js";
 
 // The rate of a guess that isn't given.
 const USUAL_RATE = 48000;
 const USAGE = `usage: hound_bindings info [--details] FILE..                     says what each file is
        hound_bindings repair [--to-end | --canonical] FILE..  repairs each in place: copy what you have only once
        hound_bindings guess [--rate HZ] FILE..                for a lost header: makes a copy NAME.repaired.wav
+       hound_bindings serve [--port PORT]                     serves a page that records in your browser
 
 With --to-end all that follows the header of the data is taken for samples.
 Where a whole file has another RIFF size or pad byte than the format asks for --details says so, --canonical writes it.
 A guess finds channels and bits, and may be wrong: listen. It finds no rate: ${USUAL_RATE} is assumed without --rate.
+The pages are served to this computer alone, at port ${USUAL_PORT} without --port. A browser keeps recordings by the port.
 The status is 0 if all files could be read or repaired, 1 if one couldn't, and 2 if the arguments are wrong.`;
 
 const number = (n) => n.toLocaleString("en");
@@ -105,8 +108,27 @@ function optionsOf(words, options) {
   return { [name.slice(2).replace("=", "").replace("-e", "E")]: name.endsWith("=") ? Number(value) : true };
 }
 
+/** Serves the pages until the program is ended. */
+async function servePages({ port = USUAL_PORT }) {
+  const address = `http://127.0.0.1:${port}/record.html`;
+  try {
+    await serve(port);
+    console.log(`Open ${address} to record. Ctrl-C ends this; what was recorded stays in the browser.`);
+    return 0;
+  } catch (error) {
+    const advice = `if this command has it already, open ${address}; else choose another one by --port`;
+    console.error(error.code === "EADDRINUSE" ? `port ${port} is in use: ${advice}` : error.message);
+    return 1;
+  }
+}
+
 async function main([command, ...words]) {
   if (command === "--help") return console.log(USAGE), 0;
+  if (command === "serve") {
+    const how = optionsOf(words, ["--port="]);
+    const isUsed = how && words.length === 0 && (how.port ?? USUAL_PORT) < 65536;
+    return isUsed ? servePages(how) : (console.error(USAGE), 2);
+  }
   const [work, ...options] = Object.hasOwn(COMMANDS, command) ? COMMANDS[command] : [];
   const how = optionsOf(words, options);
   const isUsed = work && how && words.length > 0 && !words.some((word) => word.startsWith("--"));

@@ -1,9 +1,12 @@
-"""Builds the wheel of this folder with Python alone, so that `pip install` needs no network: it has the
-shared library that ../lib has for this processor. Where ../lib has none, as for an x86-64 that isn't x86-64-v2, or
-with HOUND_C_SOURCE in the environment, a C compiler makes one of ../c/hound_c.c, and with HOUND_C_LIB of the static
-library in that folder. An sdist has lib and c in this folder."""
+"""Builds the wheel and the sdist of this folder with Python alone, so that `pip install` needs no network. The wheel
+has the shared library that ../lib has for this processor. Where ../lib has none, as for an x86-64 that isn't
+x86-64-v2, or with HOUND_C_SOURCE in the environment, a C compiler makes one of ../c/hound_c.c, and with HOUND_C_LIB of
+the static library in that folder. The pages that the command serves are those of ../js/page. An sdist has lib, c and
+js in this folder."""
 import base64
+import gzip
 import hashlib
+import io
 import os
 import platform
 import re
@@ -13,29 +16,49 @@ import struct
 import subprocess
 import sys
 import sysconfig
+import tarfile
 import tempfile
 import zipfile
 
 HERE = os.path.dirname(os.path.abspath(__file__))
-NAME, VERSION = "hound_bindings", "0.2.0"
 IS_SDIST = os.path.exists(os.path.join(HERE, "PKG-INFO"))
 BINDINGS = HERE if IS_SDIST else os.path.dirname(HERE)
 LICENSE = os.path.join(HERE if IS_SDIST else os.path.dirname(BINDINGS), "LICENSE")
+PAGES, PAGE_NAMES = os.path.join(BINDINGS, "js", "page"), ("hound.html", "record.html")
 HEADER, SOURCE = os.path.join(BINDINGS, "c", "hound.h"), os.path.join(BINDINGS, "c", "hound_c.c")
+
+
+def read(path):
+    with open(path, "rb") as file:
+        return file.read()
+
+
+def project():
+    """What pyproject.toml says of the project: texts, and lists of texts. Python has no reader of TOML before 3.11."""
+    text = read(os.path.join(HERE, "pyproject.toml")).decode().partition("[project]\n")[2].partition("\n[")[0]
+    values = re.findall(r'^([\w-]+) = (?:{ text = )?("[^"]*"|\[[^]]*\])', text, flags=re.M)
+    found = {key: re.findall(r'"([^"]*)"', value) for key, value in values}
+    return {key: texts if key in ("keywords", "classifiers") else texts[0] for key, texts in found.items()}
+
+
+PROJECT = project()
+NAME, VERSION = PROJECT["name"], PROJECT["version"]
+HEADERS = [
+    ("Metadata-Version", "2.1"),
+    ("Name", NAME),
+    ("Version", VERSION),
+    ("Summary", PROJECT["description"]),
+    ("Keywords", ",".join(PROJECT["keywords"])),
+    ("License", PROJECT["license"]),
+    *(("Classifier", classifier) for classifier in PROJECT["classifiers"]),
+    ("Requires-Python", PROJECT["requires-python"]),
+    ("Description-Content-Type", "text/markdown"),
+]
+README = read(os.path.join(HERE, "README.md"))
+METADATA = "".join(f"{name}: {value}\n" for name, value in HEADERS).encode() + b"\n" + README
 PROCESSOR = runpy.run_path(os.path.join(HERE, NAME, "processor.py"))
 # What the libraries of ../lib need that not each such processor has.
 NEEDS = {"x86_64": PROCESSOR["X86_64_V2"]}
-with open(os.path.join(HERE, "README.md")) as readme:
-    README = readme.read()
-METADATA = f"""Metadata-Version: 2.1
-Name: {NAME}
-Version: {VERSION}
-Summary: WAV files read, written, appended to and repaired by proved code
-License: Apache-2.0
-Requires-Python: >=3.8
-Description-Content-Type: text/markdown
-
-{README}"""
 
 
 def system():
@@ -141,25 +164,28 @@ def manual(library):
     return page.encode()
 
 
+def package_files():
+    """The files of the package, by their names in a wheel or an sdist, without a library and the pages."""
+    names = sorted(name for name in os.listdir(os.path.join(HERE, NAME)) if name.endswith((".py", ".typed")))
+    return {f"{NAME}/{name}": read(os.path.join(HERE, NAME, name)) for name in names}
+
+
 def build_wheel(wheel_directory, config_settings=None, metadata_directory=None):
     """Writes the wheel, and returns its file name."""
-    tag, files = wheel_tag(), {}
-    for name in sorted(name for name in os.listdir(os.path.join(HERE, NAME)) if name.endswith((".py", ".typed"))):
-        with open(os.path.join(HERE, NAME, name), "rb") as file:
-            files[f"{NAME}/{name}"] = file.read()
+    tag, files = wheel_tag(), package_files()
+    for name in PAGE_NAMES:
+        files[f"{NAME}/{name}"] = read(os.path.join(PAGES, name))
     with tempfile.TemporaryDirectory() as folder:
         library = shared_library(folder)
-        with open(library, "rb") as file:
-            files[f"{NAME}/{os.path.basename(library)}"] = file.read()
+        files[f"{NAME}/{os.path.basename(library)}"] = read(library)
         if carried_library() and system()[1] in NEEDS:
             files[f"{NAME}/{os.path.basename(library)}.needs"] = " ".join(NEEDS[system()[1]]).encode()
         if system()[0] != "Windows":
             files[f"{NAME}-{VERSION}.data/data/share/man/man1/hound-wav.1"] = manual(library)
     info = f"{NAME}-{VERSION}.dist-info"
     tags = "".join(f"Tag: py3-none-{one}\n" for one in tag.split("-")[2].split("."))
-    with open(LICENSE, "rb") as file:
-        files[f"{info}/LICENSE"] = file.read()
-    files[f"{info}/METADATA"] = METADATA.encode()
+    files[f"{info}/LICENSE"] = read(LICENSE)
+    files[f"{info}/METADATA"] = METADATA
     files[f"{info}/entry_points.txt"] = f"[console_scripts]\nhound-wav = {NAME}.command:main\n".encode()
     files[f"{info}/WHEEL"] = f"Wheel-Version: 1.0\nGenerator: {NAME}\nRoot-Is-Purelib: false\n{tags}".encode()
     record = ""
@@ -174,3 +200,25 @@ def build_wheel(wheel_directory, config_settings=None, metadata_directory=None):
             entry.external_attr = 0o644 << 16
             archive.writestr(entry, content, zipfile.ZIP_DEFLATED)
     return wheel
+
+
+def build_sdist(sdist_directory, config_settings=None):
+    """Writes the sdist, and returns its file name. It has this folder, the license, and what else a wheel is made
+    of: the C file, the libraries for Linux and the pages."""
+    files = {name: read(os.path.join(HERE, name)) for name in ("backend.py", "pyproject.toml", "README.md")}
+    files.update(package_files())
+    files.update({"PKG-INFO": METADATA, "LICENSE": read(LICENSE)})
+    files.update({f"c/{name}": read(os.path.join(BINDINGS, "c", name)) for name in ("hound.h", "hound_c.c")})
+    files.update({f"js/page/{name}": read(os.path.join(PAGES, name)) for name in PAGE_NAMES})
+    for folder, _, names in os.walk(os.path.join(BINDINGS, "lib")):
+        for path in (os.path.join(folder, name) for name in names if not name.endswith(".wasm")):
+            files[os.path.relpath(path, BINDINGS).replace(os.sep, "/")] = read(path)
+    content, sdist = io.BytesIO(), f"{NAME}-{VERSION}"
+    with tarfile.open(fileobj=content, mode="w", format=tarfile.USTAR_FORMAT) as archive:
+        for name in sorted(files):
+            entry = tarfile.TarInfo(f"{sdist}/{name}")  # With a fixed time: the same files make the same sdist.
+            entry.size, entry.mode = len(files[name]), 0o644
+            archive.addfile(entry, io.BytesIO(files[name]))
+    with open(os.path.join(sdist_directory, f"{sdist}.tar.gz"), "wb") as file:
+        file.write(gzip.compress(content.getvalue(), mtime=0))
+    return f"{sdist}.tar.gz"

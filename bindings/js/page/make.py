@@ -1,11 +1,11 @@
 #!/usr/bin/env python3
-"""Makes hound.html, which is one file: page.html with page.js, the package and the WebAssembly module in it. esbuild
-joins the modules, since two of them may have a name in common.
+"""Makes the pages hound.html and record.html, of one file each: a template with the style that both share, its scripts,
+the package and the WebAssembly module in it. esbuild joins the modules, since two of them may have a name in common.
 
-usage: make.py            writes it
-       make.py --check    writes nothing, and fails where it isn't what would be written, or isn't JavaScript
+usage: make.py            writes them
+       make.py --check    writes nothing, and fails where they aren't what would be written, or aren't JavaScript
 
-Another esbuild than Debian's may write other bytes. Then --check only looks whether the page is JavaScript, and says
+Another esbuild than Debian's may write other bytes. Then --check only looks whether the pages are JavaScript, and says
 so."""
 import base64
 import hashlib
@@ -17,10 +17,17 @@ import sys
 import tempfile
 
 HERE = os.path.dirname(os.path.abspath(__file__))
-PAGE = os.path.join(HERE, "hound.html")
 ESBUILD = "0.17.0"  # Debian 12 has this one.
+# Each page, its template, and which mark of the template which script replaces.
+PAGES = {
+    "hound.html": ("page.html", {"@SCRIPT@": "page.js"}),
+    "record.html": (
+        "record/page.html",
+        {"@SCRIPT@": "record/page.js", "@WORKER@": "record/worker.js", "@WORKLET@": "record/worklet.js"},
+    ),
+}
 
-# The page takes this instead of module.js: what a browser has, and the WebAssembly module in the page itself.
+# The pages take this instead of module.js: what a browser has, and the WebAssembly module in the page itself.
 EMBEDDED = """import bytes from "./hound_c32.wasm";
 export * from "./browser.js";
 export const module = () => WebAssembly.compile(bytes);
@@ -36,37 +43,49 @@ def digest(text):
     return base64.b64encode(hashlib.sha256(text.encode()).digest()).decode()
 
 
-def script():
-    """The modules of the page as one."""
+def bundle(entry, folder):
+    """A script and the modules that it imports as one."""
+    command = ["esbuild", "--log-level=warning", "--bundle", "--format=esm", "--charset=utf8", "--target=es2022",
+               "--loader:.wasm=binary", f"page/{entry}"]
+    return subprocess.run(command, cwd=folder, check=True, stdout=subprocess.PIPE).stdout.decode()
+
+
+def bundles():
+    """The scripts of all pages by their names."""
     with tempfile.TemporaryDirectory() as folder:
-        os.mkdir(os.path.join(folder, "page"))
-        for path in ("browser.js", "guess.js", "hound.js", "page/page.js"):
-            shutil.copy(os.path.join(HERE, "..", path), os.path.join(folder, path))
+        shutil.copytree(HERE, os.path.join(folder, "page"))
+        for name in ("browser.js", "guess.js", "hound.js"):
+            shutil.copy(os.path.join(HERE, "..", name), folder)
         shutil.copy(os.path.join(HERE, "..", "..", "lib", "hound_c32.wasm"), folder)
         with open(os.path.join(folder, "module.js"), "w", encoding="utf-8") as file:
             file.write(EMBEDDED)
-        command = ["esbuild", "--log-level=warning", "--bundle", "--format=esm", "--charset=utf8", "--target=es2022",
-                   "--loader:.wasm=binary", "page/page.js"]
-        return subprocess.run(command, cwd=folder, check=True, stdout=subprocess.PIPE).stdout.decode()
+        entries = [entry for _, scripts in PAGES.values() for entry in scripts.values()]
+        return {entry: bundle(entry, folder) for entry in entries}
 
 
 def made():
-    bundle = script()
-    page = read("page.html")
-    style = re.search(r"<style>(.*?)</style>", page, flags=re.S).group(1)
-    for mark, text in (("@STYLE_HASH@", digest(style)), ("@SCRIPT_HASH@", digest(bundle)), ("@SCRIPT@", bundle)):
-        page = page.replace(mark, text)
-    return page
+    """The pages by their names."""
+    texts, style, pages = bundles(), read("style.css"), {}
+    for name, (template, scripts) in PAGES.items():
+        page = read(template).replace("@STYLE@", style)
+        marks = {mark: texts[entry] for mark, entry in scripts.items()}
+        marks["@SCRIPT_HASH@"] = digest(marks["@SCRIPT@"])
+        marks["@STYLE_HASH@"] = digest(re.search(r"<style>(.*?)</style>", page, flags=re.S).group(1))
+        for mark, text in marks.items():
+            page = page.replace(mark, text)
+        pages[name] = page
+    return pages
 
 
-def check_syntax(page):
-    """Ends the program where the page's script isn't JavaScript."""
-    with tempfile.TemporaryDirectory() as folder:
-        path = os.path.join(folder, "page.mjs")
-        with open(path, "w", encoding="utf-8") as file:
-            file.write(re.search(r'<script type="module">(.*?)</script>', page, flags=re.S).group(1))
-        if subprocess.run(["node", "--check", path], check=False).returncode != 0:
-            sys.exit("make: the script of hound.html isn't JavaScript")
+def check_syntax(name, page):
+    """Ends the program where a script of the page isn't JavaScript."""
+    for script in re.findall(r"<script[^>]*>(.*?)</script>", page, flags=re.S):
+        with tempfile.TemporaryDirectory() as folder:
+            path = os.path.join(folder, "page.mjs")
+            with open(path, "w", encoding="utf-8") as file:
+                file.write(script)
+            if subprocess.run(["node", "--check", path], check=False).returncode != 0:
+                sys.exit(f"make: a script of {name} isn't JavaScript")
 
 
 def has_esbuild():
@@ -83,19 +102,21 @@ def main():
     if not has_esbuild():
         if not is_check:
             sys.exit(f"make: this needs esbuild {ESBUILD} (Debian: esbuild)")
-        print(f"page: passed over, since esbuild {ESBUILD} isn't here (Debian: esbuild): that hound.html is made")
-        page = read("hound.html")
+        print(f"page: passed over, since esbuild {ESBUILD} isn't here (Debian: esbuild): that the pages are made")
+        pages = {name: read(name) for name in PAGES}
     else:
-        page = made()
+        pages = made()
     if shutil.which("node") is not None:
-        check_syntax(page)
+        for name, page in pages.items():
+            check_syntax(name, page)
     elif is_check:
-        print("page: passed over, since node isn't here: that hound.html is JavaScript")
-    if not is_check:
-        with open(PAGE, "w", encoding="utf-8") as file:
-            file.write(page)
-    elif page != read("hound.html"):
-        sys.exit("make: bindings/js/page/hound.html isn't what make writes")
+        print("page: passed over, since node isn't here: that the pages are JavaScript")
+    for name, page in pages.items():
+        if not is_check:
+            with open(os.path.join(HERE, name), "w", encoding="utf-8") as file:
+                file.write(page)
+        elif page != read(name):
+            sys.exit(f"make: bindings/js/page/{name} isn't what make writes")
 
 
 main()

@@ -621,4 +621,5 @@ matchMedia("(prefers-color-scheme: dark)").addEventListener("change", redraw);
 lost.onsubmit = (event) => event.preventDefault();
 lost.elements.form.append(...FORMS.map((form, i) => new Option(formText(form), i)));
 element("rates").append(...RATES.map((rate) => new Option(rate)));
+document.querySelector("nav").hidden = location.protocol === "file:"; // What was downloaded has no page beside it.
 say("");

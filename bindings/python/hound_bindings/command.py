@@ -1,5 +1,5 @@
 """The command hound-wav, which is also `python -m hound_bindings`: what WAV files are, repairs, raw samples, other
-forms, and recordings from standard input."""
+forms, recordings from standard input, and a page that records in a browser."""
 import argparse
 import array
 import contextlib
@@ -17,7 +17,7 @@ from typing import Any, Callable, Dict, Iterator, List, NamedTuple, Optional, Tu
 
 import hound_bindings as hound
 
-from . import conversion, disk, files, lost, monitoring, parts, recording, repairs
+from . import conversion, disk, files, lost, monitoring, parts, recording, repairs, serving
 from ._library import FIND_DAMAGE, FLOATS, HEADER_BYTES, INTEGERS, CRepair, described, named
 from .terminal import Bar, Wrong, complain, say, sentence_of
 
@@ -663,7 +663,17 @@ def _parser() -> argparse.ArgumentParser:
     add("--split", type=_split, metavar="LENGTH", help=words)
     words = "give each file a chunk NAME before its samples, such as bext, with what FILE holds; may be repeated"
     add("--chunk", type=_chunk, action="append", metavar="NAME=FILE", help=words)
+
+    add = command("serve", serving.serve, "serve a page that records in your browser, to this computer alone")
+    words = f"of the address ({serving.USUAL_PORT}): a browser keeps recordings by it, so choose the same one each time"
+    add("--port", type=_port, default=serving.USUAL_PORT, help=words)
     return parser
+
+
+def _port(text: str) -> int:
+    if not re.fullmatch("[1-9][0-9]{0,4}", text) or int(text) > 65535:
+        raise argparse.ArgumentTypeError(f"{text} isn't a port from 1 to 65535")
+    return int(text)
 
 
 def _chunk(text: str) -> Tuple[bytes, bytes]:

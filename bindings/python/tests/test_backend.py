@@ -4,6 +4,7 @@ import shutil
 import subprocess
 import sys
 import sysconfig
+import tarfile
 import tempfile
 import unittest
 import zipfile
@@ -177,6 +178,19 @@ class Backend(unittest.TestCase):
         self.assertLessEqual({f'.SH "hound-wav {name}"' for name in commands}, set(page.split("\n")))
         self.assertIn("\n  \\-\\-dry\\-run ", page)
         self.assertEqual(points, "[console_scripts]\nhound-wav = hound_bindings.command:main\n")
+
+    def test_an_sdist(self):
+        """It has all that a wheel is made of: the wheel of it is that of this folder, byte for byte."""
+        name = backend.build_sdist(self.folder)
+        self.assertEqual(name, "hound_bindings-0.2.0.tar.gz")
+        with tarfile.open(os.path.join(self.folder, name)) as archive:
+            archive.extractall(self.folder)
+        made = os.path.join(self.folder, "made")
+        os.mkdir(made)
+        command = [sys.executable, "-B", "-c", "import backend; backend.build_wheel('../made')"]
+        subprocess.run(command, cwd=os.path.join(self.folder, name[: -len(".tar.gz")]), check=True)
+        wheel = backend.build_wheel(self.folder)
+        self.assertEqual(backend.read(os.path.join(made, wheel)), backend.read(os.path.join(self.folder, wheel)))
 
     def test_tags(self):
         for system, platform, version, tag in (
