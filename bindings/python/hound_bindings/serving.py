@@ -13,7 +13,7 @@ USUAL_PORT = 8416
 _ADDRESS = "127.0.0.1"
 _PAGES = "record.html", "hound.html"
 _HERE = os.path.dirname(os.path.abspath(__file__))
-# Beside this file in a package, and in bindings/js in a clone.
+# In the folder of this file in a package, and in bindings/js in a clone.
 _FOLDERS = _HERE, os.path.join(_HERE, "..", "..", "js", "page")
 _HEADERS = {
     "Content-Security-Policy": "frame-ancestors 'none'",  # Each page has the rest of its policy in itself.
