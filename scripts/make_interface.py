@@ -258,7 +258,6 @@ VERSIONS = [
     ("bindings/hound/Cargo.toml", '\nversion = "3.5.1+rattle.{}"\n'),
     ("bindings/hound/README.md", "names version 3.5.1+rattle.{}.\n"),
     ("bindings/python/pyproject.toml", '\nversion = "{}"\n'),
-    ("bindings/python/backend.py", 'NAME, VERSION = "hound_bindings", "{}"\n'),
     ("bindings/python/hound_bindings/_library.py", '\n__version__ = "{}"\n'),
     ("bindings/js/package.json", '"version": "{}",\n'),
     ("CHANGELOG.md", "# Changes\n\n## {} "),

@@ -182,7 +182,7 @@ class Backend(unittest.TestCase):
     def test_an_sdist(self):
         """It has all that a wheel is made of: the wheel of it is that of this folder, byte for byte."""
         name = backend.build_sdist(self.folder)
-        self.assertEqual(name, "hound_bindings-0.2.0.tar.gz")
+        self.assertEqual(name, f"hound_bindings-{backend.VERSION}.tar.gz")
         with tarfile.open(os.path.join(self.folder, name)) as archive:
             archive.extractall(self.folder)
         made = os.path.join(self.folder, "made")
