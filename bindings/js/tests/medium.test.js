@@ -54,11 +54,20 @@ test("files are recorded, continued and repaired in media whose calls return pro
     await (await continueFile(medium, SPEC)).close();
     assert.deepEqual(held.bytes, fileOf());
 
+    held.calls.length = 0;
     await assert.rejects(record(medium, SPEC, { exclusive: true }), { code: "EEXIST" });
-    assert.deepEqual(held.bytes, fileOf());
+    assert.deepEqual([held.bytes, held.calls], [fileOf(), []]);
     await (await record(medium, SPEC)).close();
     assert.deepEqual(held.bytes, fileOf());
   }
+});
+
+test("a browser has no setImmediate, and none is called", async (t) => {
+  const held = new Held(), recorder = await record(held, SPEC), { setImmediate } = globalThis;
+  globalThis.setImmediate = undefined;
+  t.after(() => { globalThis.setImmediate = setImmediate; });
+  for (let i = 0, end = performance.now() + 20; i === 0 || performance.now() < end; i++) await recorder.write(block(i));
+  await recorder.close();
 });
 
 test("what is durable is flushed before the header counts it, and else nothing is", async () => {

@@ -45,6 +45,7 @@ test("what the microphone gives is stored, on a full disk and after a crash, too
   /** Begins the recording, and returns what gives it blocks of a tenth of a second, and what is a crash to it. */
   const visit = async () => {
     const { port1, port2 } = new MessageChannel(), microphone = new Microphone();
+    t.after(() => port1.close());
     const listened = globalThis.onmessage({ data: RATE, ports: [port2] });
     microphone.port.onmessage({ ports: [port1] });
     const give = async (count) => {
