@@ -25,7 +25,7 @@ import sys
 import tempfile
 
 TOP = os.path.dirname(os.path.dirname(os.path.abspath(__file__)))
-SECONDS = 120  # No block may take longer.
+SECONDS = 300  # No block may take longer.
 PROGRAMS = {"python": "py", "js": "mjs", "c": "c", "rust": "rs"}
 LANGUAGES = {*PROGRAMS, "sh", "toml"}
 PRINTS = r"^ *(?:print|println!|console\.log)\(.*\);? +(?:#|//) (.*)$"
