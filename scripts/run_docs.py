@@ -25,7 +25,7 @@ import sys
 import tempfile
 
 TOP = os.path.dirname(os.path.dirname(os.path.abspath(__file__)))
-SECONDS = 120  # No block may take longer.
+SECONDS = 300  # No block may take longer.
 PROGRAMS = {"python": "py", "js": "mjs", "c": "c", "rust": "rs"}
 LANGUAGES = {*PROGRAMS, "sh", "toml"}
 PRINTS = r"^ *(?:print|println!|console\.log)\(.*\);? +(?:#|//) (.*)$"
@@ -171,9 +171,7 @@ class Section:
     def run_all(self):
         """For each block whether it runs as it is printed, and what it says."""
         for block in self.blocks:
-            missing = [name for name in NEEDED.get(block.language, []) if not shutil.which(name)]
-            if is_of_numpy(block) and not self.reader.has_numpy:
-                missing = ["numpy"]
+            missing = self.missing(block)
             if block.skipped:
                 yield block, None, f"not run: {block.skipped}"
             elif block.language not in LANGUAGES:
@@ -186,6 +184,17 @@ class Section:
                     yield block, True, ""
                 except (AssertionError, OSError, RuntimeError, subprocess.TimeoutExpired) as error:
                     yield block, False, str(error)
+
+    def missing(self, block):
+        """The programs that a block needs, and that aren't here."""
+        if is_of_numpy(block):
+            return [] if self.reader.has_numpy else ["numpy"]
+        if block.language != "sh":
+            return [name for name in NEEDED.get(block.language, []) if not shutil.which(name)]
+        defined = {"cd", "echo", "printf", *re.findall(r"(\w+)\(\)", " ".join(block.first))}
+        path = os.pathsep.join([*self.paths(), os.environ["PATH"]])
+        called = re.findall(r"(?:^|[|(] *|&& *)([a-z][\w.-]*)(?= )", block.text, flags=re.M)
+        return [name for name in called if name not in defined and not shutil.which(name, path=path)]
 
     def run(self, block):
         first = "\n".join(block.first).replace("CLONE", self.reader.clone)

@@ -77,7 +77,7 @@ by_cc() {
     page c "$manual" > tone.c && as_written "$manual" "cc -ICLONE/bindings/c tone.c $library -o tone && ./tone"
 }
 by_source() {
-    (cd "$clone" && as_written "$manual" "cc -O3 -c bindings/c/hound_c.c" && mv hound_c.o "$OLDPWD") \
+    as_written "$manual" "cc -O3 -c CLONE/bindings/c/hound_c.c" \
         && page c "$manual" > tone.c && cc "-I$clone/bindings/c" tone.c hound_c.o -o tone && ./tone
 }
 # A program that CMake builds with hound::hound_c, which these lines find.
