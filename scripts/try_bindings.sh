@@ -526,8 +526,8 @@ if has cargo "the Cargo package hound"; then
     check "a program written for hound, which adds that package from a clone" user_of_hound
     check "the same after cargo vendor" vendored
 fi
-has python3 "that hound.html is made" \
-    && check "hound.html is what its script makes of the package and the module" bindings/js/page/make.py --check
+has python3 "that the pages are made" \
+    && check "the pages are what their script makes of the package and the module" bindings/js/page/make.py --check
 if ! has node "the JavaScript package"; then :
 elif ! is_node_20; then
     echo "bindings: passed over, since this node is older than 20: the JavaScript package"
@@ -542,8 +542,9 @@ else
             && check "esbuild bundles the packed package and the linked folder for browsers" js_bundled
     fi
     browsers=
-    for browser in chromium firefox-esr; do has "$browser" "hound.html in it" && browsers="$browsers $browser"; done
+    for browser in chromium firefox-esr; do has "$browser" "the pages in it" && browsers="$browsers $browser"; done
     [ -z "$browsers" ] || check "hound.html in$browsers" scripts/try_browser.mjs
+    [ -z "$browsers" ] || check "record.html in$browsers, which are killed while it records" scripts/try_recording.mjs
 fi
 if has python3 "the libraries of other processors" && has "$cc" "the libraries of other processors"; then
     check "each code among the answers to requests.py" answers

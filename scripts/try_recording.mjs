@@ -4,7 +4,8 @@
 // is opened again, and what it saves has to have each sample up to the last checkpoint that it had reported, in order,
 // and nothing else. What else may happen to a recording is tried, too, and wrong versions of the page have to be found.
 // A browser that isn't here is named and passed over.
-//   scripts/try_recording.mjs [--kills COUNT] [--pictures FOLDER] [--only WORD]   (the gate has 10 kills)
+//   scripts/try_recording.mjs [--kills COUNT] [--pictures FOLDER] [--only BROWSER] [--parts conditions,wrong,kills]
+//                                                                              (without --kills there are 10)
 import {spawn, spawnSync} from "node:child_process";
 import fs from "node:fs";
 import os from "node:os";
@@ -13,12 +14,12 @@ import {fileURLToPath} from "node:url";
 import {parseArgs} from "node:util";
 import {chromium, contrasts, exit, firefox, must, once, pause, until} from "./browsers.mjs";
 
-const {values: {kills, pictures, only}} =
-  parseArgs({options: {kills: {type: "string", default: "10"}, pictures: {type: "string"}, only: {type: "string"}}});
+const string = {type: "string"}, {values: {kills, pictures, only, parts}} = parseArgs(
+  {options: {kills: {...string, default: "10"}, pictures: string, only: string, parts: string}});
 const COMMAND = path.join(process.env.TRY_PACKAGE ?? fileURLToPath(new URL("../bindings/js", import.meta.url)), "command.js");
 const PORT = 20000 + process.pid % 10000, URL_OF_PAGE = `http://127.0.0.1:${PORT}/record.html`;
 const PAGE = fs.readFileSync(path.join(path.dirname(COMMAND), "page", "record.html"), "utf8");
-const work = fs.mkdtempSync(path.join(os.tmpdir(), "try_recording-")), SAVED = path.join(work, "saved");
+const work = fs.mkdtempSync(path.join(os.tmpdir(), "try_recording-"));
 // So many frames have numbers of their own, at this rate.
 const [NUMBERS, RATE] = [2 ** 20, 48000];
 
@@ -102,10 +103,10 @@ const BROWSERS = [
   {
     program: "chromium",
     share: 0.6, // Of the kills, each of which takes more time in Firefox.
-    async start(profile, edits, isReal) {
+    async start({profile, saved}, edits, isReal) {
       const asked = ["--use-fake-device-for-media-stream", ...(isReal ? [] : ["--use-fake-ui-for-media-stream"])];
       const flags = ["--no-first-run", "--disable-extensions", "--autoplay-policy=no-user-gesture-required", ...asked];
-      return chromium({profile, saved: SAVED, flags, preload: isReal ? "" : preparation(edits), detached: true});
+      return chromium({profile, saved, flags, preload: isReal ? "" : preparation(edits), detached: true});
     },
     /** The processes that have the tabs. */
     async tabs({send}) {
@@ -117,7 +118,7 @@ const BROWSERS = [
   {
     program: "firefox-esr",
     share: 0.4,
-    async start(profile, edits) {
+    async start({profile, saved}, edits) {
       const settings = {
         "media.autoplay.default": 0,
         "media.autoplay.blocking_policy": 0,
@@ -129,7 +130,8 @@ const BROWSERS = [
         "datareporting.policy.dataSubmissionEnabled": false,
         "app.update.disabledForTesting": true,
       };
-      return firefox({profile, saved: SAVED, settings, preload: `() => ${preparation(edits)}`, hasDisplay: false, detached: true});
+      const preload = `() => ${preparation(edits)}`;
+      return firefox({profile, saved, settings, preload, hasDisplay: false, detached: true});
     },
     async tabs({child}) {
       return alive(child.pid).filter((id) => id !== child.pid && threads(id).some((name) => name.startsWith("DOM Worker")));
@@ -156,10 +158,11 @@ function threads(id) {
 
 /** A browser with a profile, on the page. A start that says nothing for a minute is ended, and tried again. */
 async function open(kind, profile, edits = [], isReal = false) {
+  const saved = path.join(path.dirname(profile), "saved");
   for (let attempts = 3;; attempts--) {
-    const starting = kind.start(profile, edits, isReal).then((browser) => (started.add(browser.child), browser));
+    const starting = kind.start({profile, saved}, edits, isReal).then((browser) => (started.add(browser.child), browser));
     const browser = await Promise.race([starting, pause(60000)]);
-    if (browser) return Object.assign(browser, {kind, profile, stored: 0, onLine: (line) => hear(browser, line)});
+    if (browser) return Object.assign(browser, {kind, profile, saved, stored: 0, onLine: (line) => hear(browser, line)});
     starting.then(killAll, () => {});
     if (attempts === 1) throw new Error("the browser doesn't start");
     profile = kind.again(profile);
@@ -195,12 +198,14 @@ const press = (tab, row, text) => tab.click(`#list li:nth-child(${row}) button[a
 
 /** Saves a recording, and returns what is in the file. */
 async function save(tab, row = 1) {
-  fs.rmSync(SAVED, {recursive: true, force: true});
-  fs.mkdirSync(SAVED);
+  const {saved} = tab;
+  fs.rmSync(saved, {recursive: true, force: true});
+  fs.mkdirSync(saved);
   await press(tab, row, "Save");
-  const file = await until(() => fs.readdirSync(SAVED).find((name) => name.endsWith(".wav") && isComplete(path.join(SAVED, name))));
-  must(file, `nothing is saved: ${fs.readdirSync(SAVED)}`);
-  return read(fs.readFileSync(path.join(SAVED, file)));
+  const names = () => fs.readdirSync(saved).filter((name) => name.endsWith(".wav"));
+  const file = await until(() => names().find((name) => isComplete(path.join(saved, name))));
+  must(file, `nothing is saved: ${fs.readdirSync(saved)}`);
+  return read(fs.readFileSync(path.join(saved, file)));
 }
 
 /** Whether a file has all bytes that its first eight ones announce. */
@@ -209,18 +214,22 @@ function isComplete(file) {
   return bytes.length > 8 && bytes.length >= bytes.readUInt32LE(4) + 8;
 }
 
-/** Reads a WAV file of two channels in 24 bits by what the format says, and nothing of this project. */
+/**
+ * Reads a WAV file of two channels in 24 bits by what the format says, and nothing of this project: how many frames it
+ * has, the numbers of the first and the last one, and where a frame isn't the next one.
+ */
 function read(bytes) {
   must(bytes.toString("latin1", 0, 4) + bytes.toString("latin1", 8, 16) === "RIFFWAVEfmt ", "no WAV file is saved");
   must(bytes.readUInt32LE(4) + 8 === bytes.length, "its RIFF size is another one");
   must(bytes.readUInt16LE(22) === 2 && bytes.readUInt32LE(24) === RATE && bytes.readUInt16LE(34) === 24, "its format");
   const at = 20 + bytes.readUInt32LE(16), length = bytes.readUInt32LE(at + 4);
   must(bytes.toString("latin1", at, at + 4) === "data" && at + 8 + length + length % 2 === bytes.length, "its data");
-  const frames = length / 6, numberOf = (i) => bytes.readIntLE(at + 8 + 6 * i, 3);
-  let i = 0;
-  const first = frames ? numberOf(0) : 0;
-  while (i < frames && numberOf(i) === (first + i) % NUMBERS && bytes.readIntLE(at + 11 + 6 * i, 3) === -numberOf(i)) i++;
-  return {frames, first, next: (first + frames) % NUMBERS, firstWrong: i < frames ? i : undefined};
+  const frames = length / 6, numberOf = (i) => bytes.readIntLE(at + 8 + 6 * i, 3), breaks = [];
+  for (let i = 0; i < frames; i++) {
+    const isNext = i === 0 || numberOf(i) === (numberOf(i - 1) + 1) % NUMBERS;
+    if (!isNext || bytes.readIntLE(at + 11 + 6 * i, 3) !== -numberOf(i)) breaks.push(i);
+  }
+  return {frames, breaks, first: frames && numberOf(0), last: frames && numberOf(frames - 1)};
 }
 
 async function removeAll(tab) {
@@ -258,7 +267,7 @@ async function check(browser, stored) {
   if (stored === 0 && all.every((row) => row.includes("no sound"))) return await removeAll(browser), {frames: 0};
   must(all.length === 1, `${stored} frames were reported, and the list is ${JSON.stringify(all)}`);
   const found = await save(browser);
-  must(found.firstWrong === undefined, `frame ${found.firstWrong} is wrong of ${found.frames}, ${stored} were reported`);
+  must(found.breaks.length === 0, `frames ${found.breaks.slice(0, 5)} are wrong of ${found.frames}`);
   must(found.frames >= stored, `${stored} frames were reported, and ${found.frames} come back`);
   must(said === `1 recording was cut off: all ${clock(found.frames)} that were stored are here.`, `it says ${said}`);
   await removeAll(browser);
@@ -268,9 +277,9 @@ async function check(browser, stored) {
 const WAYS = ["browser", "all", "tab"];
 
 /** A browser with a new profile, on the page. */
-async function openNew(kind, edits = []) {
+async function openNew(kind, edits = [], isReal = false) {
   const folder = fs.mkdtempSync(path.join(work, `${kind.program}-`));
-  const browser = Object.assign(await open(kind, path.join(folder, "0"), edits), {edits});
+  const browser = Object.assign(await open(kind, path.join(folder, "0"), edits, isReal), {edits});
   await show(browser);
   return browser;
 }
@@ -300,25 +309,302 @@ async function tryKills(kind, count, edits = []) {
     seconds(sums.frames)} s were right, and at most ${seconds(sums.beyond)} s of one were more than reported`);
 }
 
+/** How many frames the page of a tab reports as stored. */
+const storedIn = (tab) => tab.evaluate(`Number(document.getElementById("stored").dataset.frames ?? 0)`);
+
+/** Waits until a tab reports more frames as stored than these, and returns how many. */
+const moreThan = (tab, frames) => until(async () => {
+  const stored = await storedIn(tab);
+  return stored > frames && stored;
+});
+
+const says = (tab, text, what) => once(tab, `document.getElementById("said")?.textContent.includes(${JSON.stringify(text)})`, what);
+
+/** The only recording that is left is whole, and has at least so many frames, in order. */
+async function mustBeWhole(tab, frames, breaks = 0) {
+  const all = await rows(tab);
+  must(all.length === 1 && all[0].includes("whole"), `the list is ${JSON.stringify(all)}`);
+  const found = await save(tab);
+  must(found.breaks.length === breaks, `frames ${found.breaks.slice(0, 5)} are wrong of ${found.frames}`);
+  must(found.frames >= frames, `${found.frames} frames are left of ${frames}`);
+  return found;
+}
+
+/** A recording with a pause, which is looked at, saved, played and deleted. */
+async function tryPause(tab) {
+  await tryLooks(tab, "ready");
+  await startRecording(tab);
+  const before = await moreThan(tab, 0);
+  await tryLooks(tab, "recording");
+  await tab.click("#pause");
+  await phase(tab, "paused");
+  await once(tab, `document.getElementById("stored").textContent.endsWith(" " + document.getElementById("time").textContent)`,
+    "all is stored in a pause");
+  const paused = await moreThan(tab, before - 1);
+  await pause(1500);
+  must(await storedIn(tab) === paused, "nothing is stored in a pause");
+  await tab.click("#pause");
+  const after = await moreThan(tab, paused);
+  await stopRecording(tab);
+  const {frames, breaks} = await mustBeWhole(tab, after, 1);
+  must(Math.abs(breaks[0] - paused) < RATE / 5, `the pause is at frame ${breaks[0]}, and not at ${paused}`);
+  await press(tab, 1, "Play");
+  await once(tab, `Math.abs(document.querySelector("#list audio")?.duration - ${frames / RATE}) < 0.01`, "the player's length");
+  await tryLooks(tab, "list");
+  await press(tab, 1, "Delete");
+  await once(tab, `document.getElementById("dialog").open`, "it asks");
+  await tab.click("#cancel");
+  must((await rows(tab)).length === 1, "what isn't to be deleted is kept");
+}
+
+/** Two tabs, each of which records, and can't touch the recording of the other one. */
+async function tryTabs(tab) {
+  const other = await tab.another();
+  await startRecording(tab);
+  await moreThan(tab, 0);
+  await show(other);
+  const [row] = await rows(other);
+  must(/is recorded now, in another tab$/.test(row), `the other tab lists ${row}`);
+  must(await other.evaluate(`document.querySelectorAll("#list button").length`) === 0, "the other tab has buttons for it");
+  await startRecording(other);
+  const stored = [await moreThan(other, RATE), await moreThan(tab, RATE)];
+  await stopRecording(other);
+  await stopRecording(tab);
+  must((await rows(tab)).length === 2, `there are ${JSON.stringify(await rows(tab))}`);
+  for (const row of [1, 2]) {
+    const {frames, breaks} = await save(tab, row);
+    must(breaks.length === 0 && frames >= Math.min(...stored), `recording ${row} has ${frames} frames, breaks ${breaks}`);
+  }
+}
+
+/** A disk that is full, and has room again; then one that stays full, so that the recording is given up. */
+async function tryFull(tab) {
+  const origin = new URL(URL_OF_PAGE).origin, setRoom = async (room) => {
+    const {usage} = await tab.evaluate("navigator.storage.estimate()");
+    await tab.call("Storage.overrideQuotaForOrigin", {origin, ...(room !== undefined && {quotaSize: usage + room})});
+  };
+  await startRecording(tab);
+  await moreThan(tab, 0);
+  await setRoom(100000);
+  await says(tab, "The disk is full: free some space. Nothing is lost yet", "the disk is full");
+  const stored = await storedIn(tab);
+  await pause(2000);
+  await setRoom();
+  await says(tab, "It is stored again.", "there is room again");
+  const more = await moreThan(tab, stored + 2 * RATE);
+  await stopRecording(tab);
+  await mustBeWhole(tab, more);
+  await removeAll(tab);
+  await startRecording(tab);
+  await moreThan(tab, 0);
+  await setRoom(100000);
+  await giveUp(tab);
+  await setRoom();
+}
+
+/** The disk is full: the recording is stopped, waits for room, and is given up. */
+async function giveUp(tab) {
+  await says(tab, "The disk is full: free some space. Nothing is lost yet", "the disk is full");
+  await tab.click("#stop");
+  await phase(tab, "ending");
+  await once(tab, `document.getElementById("give-up").checkVisibility()`, "the rest can be given up");
+  await tab.click("#give-up");
+  await phase(tab, "ready");
+  const said = await shows(tab, "said"), [, stored] = /^(\d+:\d\d) are stored\. \d+\.\d s are lost\.$/.exec(said) ?? [];
+  must(stored, `it says ${said}`);
+  const {frames} = await mustBeWhole(tab, 0);
+  must(clock(frames) === stored, `${stored} are said to be stored, and ${clock(frames)} are`);
+}
+
+/** The microphone is unplugged. */
+async function tryUnplugged(tab) {
+  await startRecording(tab);
+  const stored = await moreThan(tab, 0);
+  await tab.evaluate(`(track.dispatchEvent(new Event("ended")), 0)`);
+  await phase(tab, "ready");
+  must((await shows(tab, "said")).startsWith("The microphone is gone"), `it says ${await shows(tab, "said")}`);
+  await mustBeWhole(tab, stored);
+}
+
+/** The computer sleeps for some seconds while it records. */
+async function trySleep(tab) {
+  const slept = 4;
+  await startRecording(tab);
+  await moreThan(tab, RATE);
+  const ids = alive(tab.child.pid);
+  for (const id of ids) process.kill(id, "SIGSTOP");
+  await pause(1000 * slept);
+  for (const id of ids) process.kill(id, "SIGCONT");
+  await once(tab, `document.getElementById("notes").children.length === 1`, "it says that something is missing");
+  const note = await shows(tab, "notes"), [, seconds] = /^(\d+\.\d\d) s are missing at 0:0\d\.$/.exec(note) ?? [];
+  must(seconds >= slept - 0.5 && seconds <= slept + 2, `of ${slept} s it says ${note}`);
+  await stopRecording(tab);
+  await mustBeWhole(tab, 0);
+}
+
+/** A worker that does nothing for 3 s, while blocks wait for it. */
+const STALL = [[
+  "await this.#recorder.write(",
+  "if (this.#written > 48000 && !this.wasBusy) for (const end = Date.now() + 3000; Date.now() < end; this.wasBusy = true); await this.#recorder.write("
+]];
+async function tryStall(tab) {
+  await startRecording(tab);
+  const stored = await moreThan(tab, 5 * RATE);
+  await stopRecording(tab);
+  await mustBeWhole(tab, stored);
+}
+
+/** A sync that fails: the recording continues in another file, from the last checkpoint on. */
+const FAILING = [[
+  "return opened.at(-1).handle",
+  `return opened.length > 1 ? opened.at(-1).handle : Object.assign(opened[0].handle, {flush() {
+    this.count = (this.count ?? 0) + 1;
+    if (this.count === 7) throw new Error("the disk has a fault");
+    FileSystemSyncAccessHandle.prototype.flush.call(this);
+  }})`
+]];
+async function tryFailedSync(tab) {
+  await startRecording(tab);
+  await says(tab, "Nothing can be stored: the disk has a fault. Nothing is lost yet", "a sync has failed");
+  await says(tab, "It is stored again.", "it continues");
+  await moreThan(tab, 5 * RATE);
+  await stopRecording(tab);
+  const all = await rows(tab), second = all.findIndex((row) => row.includes("part 2")) + 1;
+  must(all.length === 2 && second > 0, `the list is ${JSON.stringify(all)}`);
+  const [one, two] = [await save(tab, 3 - second), await save(tab, second)];
+  must(one.breaks.length + two.breaks.length === 0, `wrong are ${one.breaks} and ${two.breaks}`);
+  must(two.first <= one.last + 1 && two.last > one.last, `${one.last} is followed by ${two.first} to ${two.last}`);
+}
+
+/** What a real browser's question about the microphone is answered, and taken back. */
+async function tryDenied(tab) {
+  const set = (setting) =>
+    tab.send("Browser.setPermission", {permission: {name: "microphone"}, setting, origin: new URL(URL_OF_PAGE).origin});
+  await set("denied");
+  await tab.click("#record");
+  await says(tab, "This page may not use the microphone", "it isn't allowed");
+  must((await rows(tab)).length === 0 && await tab.evaluate("document.body.dataset.phase") === "ready", "nothing is begun");
+  await set("granted");
+  await startRecording(tab);
+  await moreThan(tab, 0);
+  await set("denied");
+  await says(tab, "The microphone is gone, or may not be used any more", "it is taken back");
+  await phase(tab, "ready");
+  const [row, ...others] = await rows(tab);
+  must(others.length === 0 && row.includes("whole"), `the list is ${row}, ${others}`);
+}
+
+/** Opened from the disk, where Chromium has no private file system. */
+async function tryFromDisk(tab) {
+  await tab.show(`file://${path.join(path.dirname(COMMAND), "page", "record.html")}`);
+  await says(tab, "This browser stores nothing for a page that is opened from the disk. To record, this page has to be served: " +
+    "run npx hound_bindings serve, or hound-wav serve, and open the address it prints.", "it says how it is served");
+}
+
+/** The page as it looks on a screen and a phone: no text is pale, nothing is wider, each control has a name. */
+async function tryLooks(tab, what) {
+  for (const [name, width] of [["wide", 800], ["phone", 360]]) {
+    await tab.resize(width);
+    for (const scheme of tab.schemes) {
+      await tab.setScheme(scheme);
+      await pause(200);
+      must(await tab.evaluate("document.documentElement.scrollWidth") <= width, `${what}, ${name}: wider than the window`);
+      const low = await tab.evaluate(`(${contrasts})()`);
+      must(low.length === 0, `${what}, ${name}, ${scheme}: too little contrast: ${low}`);
+      if (!pictures) continue;
+      fs.mkdirSync(pictures, {recursive: true});
+      fs.writeFileSync(path.join(pictures, `${tab.kind.program} ${what} ${name} ${scheme}.png`), Buffer.from(await tab.picture(), "base64"));
+    }
+  }
+  await tab.resize(1000);
+  if (!tab.call) return;
+  const {nodes} = await tab.call("Accessibility.getFullAXTree");
+  const named = ["button", "link", "combobox", "meter", "timer", "audio", "dialog"];
+  const unnamed = nodes.filter(({role, name, ignored}) => !ignored && named.includes(role?.value.toLowerCase()) && !name?.value);
+  must(unnamed.length === 0, `${what}: a screen reader has no name for ${JSON.stringify(unnamed)}`);
+}
+
+// What is tried in each browser but kills: its name, what is done, edits of the page, and whether only Chromium's
+// protocol can do it.
+const CONDITIONS = [
+  ["a pause", tryPause], ["two tabs", tryTabs], ["a microphone that is unplugged", tryUnplugged],
+  ["a computer that sleeps", trySleep], ["a worker that is busy for 3 s", tryStall, STALL],
+  ["a sync that fails", tryFailedSync, FAILING], ["a full disk", tryFull, [], "chromium"],
+  ["a microphone that is denied", tryDenied, null, "chromium"], ["a page from the disk", tryFromDisk, [], "chromium"]
+];
+
+async function tryConditions(kind) {
+  const tried = CONDITIONS.filter(([, , , one]) => !one || one === kind.program);
+  for (const [name, attempt, edits = []] of tried) {
+    const browser = await openNew(kind, edits ?? [], edits === null);
+    try {
+      await attempt(browser);
+      const reports = browser.reports().filter(({params}) => params.request?.url !== URL_OF_PAGE);
+      must(reports.length === 0, `the browser reports ${JSON.stringify(reports)}`);
+    } catch (error) {
+      throw new Error(`${kind.program}, ${name}: ${error.message}`);
+    } finally {
+      await killAll(browser);
+    }
+  }
+  console.log(`recording: ${tried.map(([name]) => name).join(", ")}, in ${kind.program}`);
+}
+
+// Wrong pages: what is reported is in memory alone, or follows no header. A kill has to show it.
+const TELL_ALL = ["counted: this.#counted, missing", "counted: came, missing"];
+const WRONG = [
+  ["the sound is in memory until the end, as in most recorders of pages",
+    [TELL_ALL, ["while (this.#waiting.length > 0)\n", "while (this.#isEnding && this.#waiting.length > 0)\n"],
+      ["} while (this.#waiting.length > 0)", "} while (this.#isEnding && this.#waiting.length > 0)"]]],
+  ["it is reported before it is written",
+    [TELL_ALL, ["await this.#recorder.write(", "await pause(this.#written > 24000 ? 700 : 0), await this.#recorder.write("]]],
+  ["the header is written at the end", [["return opened.at(-1).handle", `return ((handle, front) => ({
+    getSize: () => handle.getSize(), truncate: (size) => handle.truncate(size), flush: () => handle.flush(),
+    close: () => (handle.write(front, {at: 0}), handle.close()),
+    read: (bytes, {at}) => at < 68 ? (bytes.set(front.subarray(at, at + bytes.length)), Math.min(bytes.length, 68 - at)) : handle.read(bytes, {at}),
+    write: (bytes, {at}) => at < 68 ? (front.set(bytes, at), bytes.length) : handle.write(bytes, {at}),
+  }))(opened.at(-1).handle, new Uint8Array(68))`]]],
+];
+
+async function tryWrong(kind) {
+  for (const [what, edits] of WRONG) {
+    const browser = await openNew(kind, edits);
+    await startRecording(browser);
+    await moreThan(browser, 1.5 * RATE);
+    const next = await killAndOpen(browser, "all");
+    const found = await check(next, next.storedBefore).then(() => null, (error) => error);
+    await killAll(next);
+    must(found, `a page isn't found to be wrong: ${what}`);
+  }
+  console.log(`recording: ${WRONG.length} wrong pages are found in ${kind.program}`);
+}
+
 async function serving() {
   const server = spawn(process.execPath, [COMMAND, "serve", "--port", PORT], {stdio: ["ignore", "pipe", "inherit"]});
   process.on("exit", () => server.kill());
   await new Promise((resolve, reject) => (server.stdout.once("data", resolve), server.once("exit", reject)));
 }
 
+/** All that is tried in a browser. */
+async function tryIn(kind) {
+  const isTried = (part) => !parts || parts.split(",").includes(part);
+  if (isTried("conditions")) await tryConditions(kind);
+  if (isTried("wrong") && kind.program === "chromium") await tryWrong(kind);
+  if (!isTried("kills")) return;
+  const count = Math.round(kind.share * kills);
+  await tryKills(kind, Math.ceil(count / 2));
+  await tryKills(kind, Math.floor(count / 2), FAST);
+}
+
 async function main() {
-  fs.mkdirSync(SAVED);
-  await serving();
-  for (const kind of BROWSERS) {
-    if (only && !kind.program.includes(only)) continue;
-    if (spawnSync(kind.program, ["--version"], {env: {...process.env, HOME: work}}).status !== 0) {
-      console.log(`recording: passed over, since ${kind.program} isn't here`);
-      continue;
-    }
-    const count = Math.round(kind.share * kills);
-    await tryKills(kind, Math.ceil(count / 2));
-    await tryKills(kind, Math.floor(count / 2), FAST);
+  const chosen = BROWSERS.filter(({program}) => !only || program.includes(only));
+  const isThere = ({program}) => spawnSync(program, ["--version"], {env: {...process.env, HOME: work}}).status === 0;
+  const here = chosen.filter(isThere);
+  for (const {program} of chosen.filter((kind) => !here.includes(kind))) {
+    console.log(`recording: passed over, since ${program} isn't here`);
   }
+  await serving();
+  await Promise.all(here.map(tryIn)); // At the same time, because most of it is waiting.
 }
 
 // Node 20 has WebSocket only with this flag.

@@ -74,9 +74,10 @@ function showState({ frames, counted, missing, fault, peak, isLoud }) {
 
 function showFault(fault, stored) {
   session.isFaulty = Boolean(fault);
-  giveUpButton.hidden = !session.isFaulty || session.phase !== "ending";
-  const why = fault && (/quota|space|less was written/i.test(`${fault.name} ${fault.message}`)
-    ? "The disk is full: free some space." : `Nothing can be stored: ${fault.message}.`);
+  show(session.phase);
+  // Firefox throws nothing on a full disk: then the medium doesn't hold what was written.
+  const isFull = fault?.name === "QuotaExceededError" || fault?.code === "NOT_PERFORMED";
+  const why = isFull ? "The disk is full: free some space." : `Nothing can be stored: ${fault?.message}.`;
   if (fault) say(`${why} Nothing is lost yet: what follows ${stored} is in memory, and is stored as soon as that works.`, "bad");
   else say("It is stored again.", "good");
 }
@@ -103,7 +104,7 @@ function show(phase) {
   recordButton.disabled = !isReady;
   for (const button of [pauseButton, stopButton]) button.hidden = !isOn;
   pauseButton.textContent = phase === "paused" ? "Go on" : "Pause";
-  giveUpButton.hidden = true;
+  giveUpButton.hidden = phase !== "ending" || !session?.isFaulty;
   document.title = { recording: "\u25cf Recording", paused: "Paused" }[phase] ?? "Record, and lose nothing";
 }
 
@@ -196,16 +197,21 @@ async function ended({ frames, lost }) {
   clearTimeout(timer);
   for (const track of stream.getTracks()) track.stop();
   wakeLock?.release();
+  context.close();
   session = undefined;
-  show("ready");
-  element("time").textContent = "0:00";
-  element("stored").textContent = "";
-  element("level").firstElementChild.style.width = 0;
-  element("loud").textContent = "";
+  clear();
   if (lost > 0) say(`${clock(frames / sampleRate)} are stored. ${(lost / sampleRate).toFixed(1)} s are lost.`, "bad");
   else if (frames === 0) say("Nothing was recorded.");
-  await within(context.close());
-  await showList();
+  await showList().catch((error) => say(sentenceOn(error), "bad"));
+  show("ready");
+}
+
+/** Shows that nothing is recorded. */
+function clear() {
+  element("time").textContent = "0:00";
+  for (const id of ["stored", "loud"]) element(id).textContent = "";
+  element("stored").dataset.frames = 0;
+  element("level").firstElementChild.style.width = 0;
 }
 
 // The list
@@ -266,8 +272,9 @@ async function showList() {
 async function play(one, row) {
   URL.revokeObjectURL(player.src);
   player.src = URL.createObjectURL(await ask("copy", { name: one.name }));
-  row.append(player);
+  player.setAttribute("aria-label", `The recording of ${titleOf(one)}`);
   player.hidden = false;
+  row.append(player);
   await player.play();
 }
 

@@ -8,19 +8,19 @@ let current;
 /** Begins a recording, whose blocks come from the port. When it ends the page is told. */
 async function start({ format }, [port]) {
   const began = Date.now();
-  let files = [];
+  let opened = [];
   const openNext = async () => {
-    files = await used(files); // What couldn't be begun is free for another attempt.
-    files.push(await openSpare());
-    return files.at(-1).handle;
+    opened = await used(opened); // What couldn't be begun is free for another attempt.
+    opened.push(await openSpare());
+    return opened.at(-1).handle;
   };
   const recording = await Recording.begin(format, openNext, (state) => postMessage({ state })).catch((error) => {
-    for (const { release } of files) release();
+    for (const { release } of opened) release();
     throw error;
   });
   current = recording;
   port.onmessage = ({ data }) => recording.take(data);
-  finish(recording, async () => settle(await used(files), began));
+  finish(recording, async () => settle(await used(opened), began));
 }
 
 /** Waits for the end of a recording, and tells the page. Where its file can't be named it is listed by its time. */
