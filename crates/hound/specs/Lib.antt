@@ -9,7 +9,7 @@ pub use Rattle.hound_spec.specs.declared.error.Error.{Error}
 pub use Rattle.hound_spec.specs.declared.spec.SampleFormat.{SampleFormat}
 pub use Rattle.hound_spec.specs.declared.spec.WavSpec.{WavSpec}
 pub use Rattle.hound_spec.specs.declared.spec.WavSpecEx.{WavSpecEx}
-pub use Rattle.hound_sample.specs.{IsEncoded, Rejection, WritesContainer, all_containers, and_more, bytes_in, containers, error_of, fits, if_fits, int_bytes, joined_containers, offset_byte, too_wide, unsupported, contained, int_container-in_width, pattern_container-in_width, FillsFront, ReadRejection, Reads, ReadsContainer, ReadsEach, ReadsItem, TakesContainer, TakesLess, answer_of, error_of_read, error_of_sample, first_reason, float_rejection, int_meaning, int_rejection, items_of, low_i16, misfit, other_format, pattern, read_error, reason_of, ComesBack, clipped, difference, double_of_int, float_of, float_of_int, full_scale, next_state, noise, scaled, scaled_to, with_bits}
+pub use Rattle.hound_sample.specs.{IsEncoded, Rejection, WritesContainer, all_containers, and_more, bytes_in, containers, error_of, fits, if_fits, int_bytes, joined_containers, offset_byte, too_wide, unsupported, contained, int_container-in_width, pattern_container-in_width, FillsFront, ReadRejection, Reads, ReadsContainer, ReadsEach, ReadsItem, TakesContainer, TakesTooFew, answer_of, error_of_read, error_of_sample, first_reason, float_rejection, int_meaning, int_rejection, items_of, low_i16, misfit, other_format, pattern, read_error, reason_of, ComesBack, clipped, difference, double_of_int, float_of, float_of_int, full_scale, next_state, noise, scaled, scaled_to, with_bits}
 unfoldable pub use Rattle.hound_sample.specs.{int_container, pattern_container, state_after, with_noise}
 pub use Rattle.hound_sample.specs.declared.item.SampleError.{SampleError}
 pub use Rattle.hound_medium.specs.{FlushedSince, Flushes, Gets, Goes, IsMoved, MediumState, Puts, PutsAll, PutsFirst, Shifts, Span, Stays, WhereKeeps, WhereTells, count_of, faults_after, moment, one_more, overlay, place_reached, placed, put_at, unknown, FailsAt, IsNumbered, SameRequests, calls, greatest_count}

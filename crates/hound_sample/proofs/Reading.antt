@@ -7,7 +7,7 @@ use Rattle.std.specs.declared.io.Error.{Error as IoFault}
 use Rattle.hound_number.specs.{WhereKnown}
 use Rattle.hound_number.proofs.KnownSteps.{known_from}
 use Rattle.hound_sample.specs.Container.{Rejection, error_of, too_wide, unsupported}
-use Rattle.hound_sample.specs.Reading.{ReadRejection, Reads, ReadsContainer, TakesContainer, TakesLess, error_of_sample, read_error, reason_of}
+use Rattle.hound_sample.specs.Reading.{ReadRejection, Reads, ReadsContainer, TakesContainer, TakesTooFew, error_of_sample, read_error, reason_of}
 
 pub takes_container : {A : Type 0} (bytes : List ℕ) (old new : Option (List ℕ)) (width : ℕ)
     (meaning : List ℕ → A) (value : A) → Consumes old new bytes → length bytes ≡ width
@@ -15,9 +15,9 @@ pub takes_container : {A : Type 0} (bytes : List ℕ) (old new : Option (List �
 takes_container bytes old new width meaning value taken whole is = grind (arith, common_steps)
 
 pub takes_part : (bytes : List ℕ) (old new : Option (List ℕ)) (width : ℕ) → Consumes old new bytes
-    → length bytes < width → WhereKnown old new (TakesLess width)
+    → length bytes < width → WhereKnown old new (TakesTooFew width)
 takes_part bytes old new width taken few =
-    known_from bytes old new (TakesLess width) taken
+    known_from bytes old new (TakesTooFew width) taken
     (λ ys. (
       length bytes,
       few,

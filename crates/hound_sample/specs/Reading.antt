@@ -64,14 +64,14 @@ TakesContainer meaning width value old new = (width ≤ length old)
     × (value ≡ meaning (take width old)) × (new ≡ drop width old)
 
 -- less than a container was taken
-abbrev pub TakesLess : ℕ → List ℕ → List ℕ → Type 0
-TakesLess width old new = (n : ℕ) × (n < width) × (n ≤ length old) × (new ≡ drop n old)
+abbrev pub TakesTooFew : ℕ → List ℕ → List ℕ → Type 0
+TakesTooFew width old new = (n : ℕ) × (n < width) × (n ≤ length old) × (new ≡ drop n old)
 
 -- what a type that reads the samples returns: the value of a container, or an `IoError` with less than one taken
 abbrev pub ReadsContainer : {A : Type 0} → (List ℕ → A) → ℕ → Option (List ℕ) → Option (List ℕ)
     → Result A Error → Type 0
 ReadsContainer meaning width old new (Ok value) = WhereKnown old new (TakesContainer meaning width value)
-ReadsContainer meaning width old new (Err (IoError e)) = WhereKnown old new (TakesLess width)
+ReadsContainer meaning width old new (Err (IoError e)) = WhereKnown old new (TakesTooFew width)
 ReadsContainer meaning width old new (Err _) = ⊥
 
 -- `read`: the error if the type doesn't read the samples, with the bytes as they were; else the container is read
