@@ -1,5 +1,5 @@
 #!/usr/bin/env bash
-# Tries the Cargo package bindings/hound beside the published crate hound 3.5.1, whose folder it takes, since that crate
+# Compares the Cargo package bindings/hound with the published crate hound 3.5.1, whose folder it takes, since that crate
 # isn't in this repository: the published tests over the package, with no change but `try!` and two private fields; the
 # programs of bindings/tests/dropin, which fail at a difference that isn't listed; and programs written for hound,
 # before and after the one change in Cargo.toml.
