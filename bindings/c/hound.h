@@ -11,9 +11,9 @@
      int64_t used = hound_write_i16(&spec, block, 512, out, capacity);    // its length, or an error below 0
      if (used >= 0) used = hound_append_i16(out, capacity, used, block, 512);
 
-   hound_file.h reads, records and repairs files at a path; hound_follow.h follows one. Until version 1.0 a minor version
-   may change any declaration, and CHANGELOG.md says which; a patch version changes none. So compile with the header of
-   the library that is linked: hound_version says which one that is.
+   hound_file.h reads, records and repairs files at a path; hound_follow.h follows one. Until version 1.0 a minor
+   version may change any declaration, and CHANGELOG.md says which; a patch version changes none. So compile with the
+   header of the library that is linked: hound_version says which one that is.
 
    A file is an array of bytes: read by fread, mapped, or still to be written. No call keeps a state,
    allocates, calls the system, aborts or calls back. So each of them may be made from an audio
