@@ -34,7 +34,7 @@
      the call. Memory that is passed with const isn't written during the call, so a mapped file must
      not change or get shorter.
    - What is read is initialized: specs, samples, and a file up to its `length` or its `used` bytes.
-     What is only written needn't be: `out`, `info`, `found`, a repairer or a recorder that is begun, and
+     What is only written need not be: `out`, `info`, `found`, a repairer or a recorder that is begun, and
      a file from `used` on.
 
    After an error the caller's memory is as it was before the call; but a recorder and a repairer remember
