@@ -1,4 +1,4 @@
-"""What erase.py changes beside deleting ghost text, and check_erased.py allows: in which file, which tokens, by which,
+"""What erase.py changes besides deleting ghost text, and check_erased.py allows: in which file, which tokens, by which,
 how often they are there, and why. `(…)`, `[…]` and `{…}` are brackets with anything in them, and another `…` is
 anything without braces and semicolons.
 """

@@ -104,7 +104,7 @@ javascript_package() {
     cp "$work/page.js" page.mjs
     node page.mjs
 }
-# The crate, unpacked, in the place of that of crates.io; the page's program, and one that was written for hound.
+# The crate, unpacked, instead of that of crates.io; the page's program, and one that was written for hound.
 rust_crate() {
     fresh rust_crate
     tar -xzf "$out"/*.crate

@@ -104,7 +104,7 @@ class Reader:
         allowed = subprocess.run(["unshare", "-rn", "true"], capture_output=True).returncode == 0
         self.without_network = ["unshare", "-rn"] if allowed else []
         self.python = os.path.join(folder, "env", "bin", "python")
-        self.has_numpy = False
+        self.has_pip = self.has_numpy = False
 
     def run(self, command, folder, paths=(), given=None):
         """What a command prints; where it fails the error has all that it wrote."""
@@ -122,9 +122,11 @@ class Reader:
         script = f'. scripts/bindings.sh; clone_to "{self.clone}"; python_with_numpy'
         python = subprocess.run(["bash", "-c", script], cwd=TOP, check=True, capture_output=True, text=True).stdout
         python = python.strip().split("\n")[-1]
-        if languages & {"python", "sh"}:
+        can_install = subprocess.run([python, "-c", "import ensurepip, venv"], capture_output=True).returncode == 0
+        if languages & {"python", "sh"} and can_install:
             self.run([python, "-m", "venv", "--system-site-packages", "env"], self.folder)
             self.run([self.python, "-m", "pip", "install", "-q", f"{self.clone}/bindings/python"], self.folder)
+            self.has_pip = True
             self.has_numpy = subprocess.run([self.python, "-c", "import numpy"], capture_output=True).returncode == 0
         if languages & {"js", "sh"} and shutil.which("npm"):
             os.mkdir(os.path.join(self.folder, "npm"))
@@ -187,6 +189,8 @@ class Section:
 
     def missing(self, block):
         """The programs that a block needs, and that aren't here."""
+        if block.language in ("python", "sh") and not self.reader.has_pip:
+            return ["ensurepip"]  # Debian: python3-venv
         if is_of_numpy(block):
             return [] if self.reader.has_numpy else ["numpy"]
         if block.language != "sh":

@@ -25,7 +25,7 @@ SHOWN = [
 BARS = [
     ("hound", "hound, proved", "#1b6ca8"),
     ("original", "hound 3.5.1", "#b0b7bf"),
-    ("linked whole", "hound 3.5.1, linked whole", "#d5dade"),
+    ("linked whole", "hound 3.5.1, with LTO", "#d5dade"),
     ("libsndfile", "libsndfile, soundfile", "#d99a3c"),
     ("soundfile", "libsndfile, soundfile", "#d99a3c"),
     ("plain loop", "a plain loop", "#8a9a5b"),
@@ -91,7 +91,7 @@ HEADS = {
     "a plain loop": "plain loop",
     "ratio": "ratio",
     "hound 3.5.1": "original",
-    "linked whole": "linked whole",
+    "with LTO": "linked whole",
     "libsndfile": "libsndfile",
     "instructions": "hound instructions",
     "of hound 3.5.1": "original instructions",

@@ -380,13 +380,13 @@ js_required() { # by programs without modules, by its command, and by the declar
         && tsc --strict --noEmit --target es2022 --module nodenext --moduleResolution nodenext required.cts \
         && tsc --strict --noEmit --target es2022 --module commonjs --moduleResolution node required.cts; }
 }
-js_linked() { # what a server needs is beside hound.js, and nothing that git sees
+js_linked() { # what a server needs is next to hound.js, and nothing that git sees
     mkdir "$work/linked" \
         && (cd "$work/linked" && $offline npm install --silent --offline --no-audit --no-fund "$top/bindings/js") \
         && cmp bindings/lib/hound_c32.wasm "$work/linked/node_modules/hound_bindings/hound_c32.wasm" \
             && [ -z "$(git status --short)" ]
 }
-js_bundled() { # for browsers: with nothing of Node, and with hound_c32.wasm beside the bundle, be that a module or not
+js_bundled() { # for browsers: with nothing of Node, and with hound_c32.wasm next to the bundle, be that a module or not
     local folder format
     for folder in js linked; do for format in esm iife; do
         cd "$work/$folder" && printf 'import * as hound from "hound_bindings";\nglobalThis.hound = hound;\n' > all.mjs \
@@ -437,7 +437,7 @@ if has "$cc" "the users in C"; then
     check "hound_file.h over a file that was opened to append, unknown effects, without descriptors, and as floats" user \
         descriptors "$work/descriptors.wav" --
     check "calls.c finds each wrong library of wrong.c" wrong_libraries
-    check "300,000 recordings over a simulated disk, with kills, faults and losses of power" user disk 300000 --
+    check "300,000 recordings over a simulated disk, with killed processes, faults and power failures" user disk 300000 --
     check "disk.c finds each of its wrong versions" wrong_disks
     check "$cc warns of a NULL" null_warned "$cc"
     has clang "its warning of a NULL" && check "clang warns of a NULL" null_warned clang
@@ -482,12 +482,12 @@ if has python3 "the Python package" && has "$cc" "the Python package"; then
         check "the tests with what Python has on Windows, and what pip builds on other systems" python_systems
         has strace "killed Python programs, and failing calls of theirs" \
             && check "killed Python programs, and failing calls of theirs" python_faults
-        check "killed recordings in parts, by hound-wav, Python, C, Node and Cargo" parts
+        check "killed split recordings, by hound-wav, Python, C, Node and Cargo" parts
         check "killed recordings that are followed meanwhile, by C, Python, hound-wav, Node and Cargo, and wrong followers" followed
-        check "files of hound_rows, cut files and each code, beside the model, through cat.c and by record.c" rows
+        check "files of hound_rows, cut files and each code, compared with the model, through cat.c and by record.c" rows
     else
         echo "bindings: passed over, since this Python has no ensurepip: pip"
-        check "files of hound_rows, cut files and each code, beside the model, through cat.c and by record.c" quick_rows
+        check "files of hound_rows, cut files and each code, compared with the model, through cat.c and by record.c" quick_rows
     fi
     check "each row of the tables of PROVING has a case, and the library does what the row says" \
         with_package bindings/tests/tables.py

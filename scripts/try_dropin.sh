@@ -1,8 +1,8 @@
 #!/usr/bin/env bash
-# Tries the Cargo package bindings/hound beside the published crate hound 3.5.1, whose folder it takes, since that crate
-# isn't in this repository: the published tests over the package, with no change but `try!` and two private fields; the
-# programs of bindings/tests/dropin, which fail at a difference that isn't listed; and programs written for hound,
-# before and after the one change in Cargo.toml.
+# Compares the Cargo package bindings/hound with the published crate hound 3.5.1, whose folder it takes, since that
+# crate isn't in this repository: the published tests over the package, with no change but `try!` and two private
+# fields; the programs of bindings/tests/dropin, which fail at a difference that isn't listed; and programs written for
+# hound, before and after the one change in Cargo.toml.
 #   scripts/try_dropin.sh FOLDER [COUNT]     (COUNT files are read, and as many written: 300000)
 #   scripts/try_dropin.sh --wrong FOLDER     (the wrong versions of bindings/tests/dropin/wrong.tsv, each to be found)
 #   scripts/try_dropin.sh --speed FOLDER [WORD]   (the times of both in the cases whose names have this word, or in all;

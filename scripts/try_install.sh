@@ -1,9 +1,9 @@
 #!/usr/bin/env bash
-# Follows each install line of README.md and docs/BINDINGS.md as a reader does: in an empty folder beside a fresh clone,
-# by that page's words, and without network where unshare is allowed. Then the page's program has to run there, and git
-# has to find the clone as it was. What a line needs and isn't here is named and passed over. It writes a line for each
-# install, and last 'N of N installs work'. What the packages do after that is tried by scripts/try_bindings.sh, and the
-# other programs and commands of the pages are run by scripts/run_docs.py.
+# Follows each install line of README.md and docs/BINDINGS.md as a reader does: in an empty folder next to a fresh
+# clone, by that page's words, and without network where unshare is allowed. Then the page's program has to run there,
+# and git has to find the clone as it was. What a line needs and isn't here is named and passed over. It writes a line
+# for each install, and last 'N of N installs work'. What the packages do after that is tried by
+# scripts/try_bindings.sh, and the other programs and commands of the pages are run by scripts/run_docs.py.
 #   scripts/try_install.sh
 set -u
 cd "$(dirname "$0")/.."

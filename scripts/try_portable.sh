@@ -105,7 +105,7 @@ target() { # NAME RUN COMPILER..
         say "$name: $(wc -l < "$work/answers") answers, calls.c, hostile files, a simulated disk and the programs"
     fi
 }
-# bindings/c/board.c with losses of power, for the processor of a board, and on it.
+# bindings/c/board.c with power failures, for the processor of a board, and on it.
 on_board="-std=c99 -pedantic $flags -I$tests/board -Os -ffunction-sections -fdata-sections -Wl,--gc-sections"
 board() { # NAME RUN COMPILER..
     local name=$1 run=$2

@@ -206,7 +206,7 @@ def a_broken_input_is_shown_as_far_as_it_goes(tool):
         same(tool.run_broken(["show"], MANY_FILE[:length]), (1, lines, FAILED), length)
 
 
-# Outputs that fail early and late: they have room for so many bytes.
+# Outputs that fail early and late: they have space for so many bytes.
 @check("hound_tool")
 def a_full_output_is_reported(tool):
     for words, given, wanted in [

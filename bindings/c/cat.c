@@ -1,7 +1,7 @@
 /* Writes the samples of a WAV file to standard output without a header: integers of up to 16 bits as
    int16_t, wider ones as int32_t, floats as float; with --float all as float, integers in full scale 1.
    The file comes from standard input, which may be a pipe: nothing is read twice, and no more than a
-   block is in memory. With --to-end it is a stream, whose header needn't know its length: all whole
+   block is in memory. With --to-end it is a stream, whose header may not know its length: all whole
    frames to its end are samples.
      cc -Ibindings/c bindings/c/cat.c bindings/lib/x86_64-linux/libhound_c.a -o cat && ./cat < in.wav > out.raw */
 #include "hound_file.h"
@@ -52,7 +52,7 @@ static int fail(const char *why) {
     return 1;
 }
 
-/* The sentence of an error. Where the data length is wrong it says what reads the samples all the same. */
+/* The sentence of an error. If the data length is wrong it says what reads the samples nevertheless. */
 static const char *text_of(int32_t code) {
     int is_wrong = code == HOUND_TRUNCATED || code == HOUND_DATA_LENGTH || code == HOUND_FRAME_LENGTH;
     if (!is_wrong) return hound_error_text(code);

@@ -11,9 +11,9 @@
      int64_t used = hound_write_i16(&spec, block, 512, out, capacity);    // its length, or an error below 0
      if (used >= 0) used = hound_append_i16(out, capacity, used, block, 512);
 
-   hound_file.h reads, records and repairs files at a path; hound_follow.h follows one. This is version 0.2: until 1.0 a
-   minor version may change any declaration, and CHANGELOG.md says which; a patch version changes none. Then compile
-   again with the header of the library: hound_version says which library is linked.
+   hound_file.h reads, records and repairs files at a path; hound_follow.h follows one. Until version 1.0 a minor
+   version may change any declaration, and CHANGELOG.md says which; a patch version changes none. So compile with the
+   header of the library that is linked: hound_version says which one that is.
 
    A file is an array of bytes: read by fread, mapped, or still to be written. No call keeps a state,
    allocates, calls the system, aborts or calls back. So each of them may be made from an audio
@@ -34,7 +34,7 @@
      the call. Memory that is passed with const isn't written during the call, so a mapped file must
      not change or get shorter.
    - What is read is initialized: specs, samples, and a file up to its `length` or its `used` bytes.
-     What is only written needn't be: `out`, `info`, `found`, a repairer or a recorder that is begun, and
+     What is only written need not be: `out`, `info`, `found`, a repairer or a recorder that is begun, and
      a file from `used` on.
 
    After an error the caller's memory is as it was before the call; but a recorder and a repairer remember

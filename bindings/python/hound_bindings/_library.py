@@ -186,12 +186,16 @@ class HoundError(ValueError):
     def _said(self, advice: Advice) -> str:
         """The text, with what can be done about some causes."""
         if self.held is None:
-            what = ": ".join(filter(None, (self.cause.sentence, self._advised(advice))))
+            what = ": ".join(filter(None, (self._sentence(), self._advised(advice))))
             return what if self.filename is None else f"{self.filename}: {what}"
         holds = f"{self.filename or 'the file'} holds {self.held}, so it isn't read"
         if self._held not in (None, _CONVERTED):
             return f"{holds} ({self.cause.sentence})"  # No program is known that converts it.
         return f"{holds}: convert it by {self._converting()} ({self.cause.sentence})"
+
+    def _sentence(self) -> str:
+        is_value = self._role == GIVEN and self.cause == Cause.TOO_WIDE
+        return f"a value doesn't fit in {self._bits} bits" if is_value else self.cause.sentence
 
     def _advised(self, advice: Advice) -> Optional[str]:
         """What can be done about the cause."""

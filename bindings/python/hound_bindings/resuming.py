@@ -73,7 +73,7 @@ def resume(
 
 
 def _parts_of(path: str) -> List[str]:
-    """The files of the recording at a path, from the first one on, which needn't be there."""
+    """The files of the recording at a path, from the first one on, which may be missing."""
     found = parts_at(path)
     for number in range(1, max(found, default=1)):
         if number not in found:

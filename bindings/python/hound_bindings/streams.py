@@ -50,7 +50,7 @@ class Reader(OneAtATime):
     by itself; of a pipe, or an object with a descriptor, a read in another process is a RuntimeError, since they would
     take each other's bytes.
 
-    With `to_end` it is a stream, whose header needn't know its length, as sox and ffmpeg write one into a pipe: its
+    With `to_end` it is a stream whose header may not know its length, as when sox or ffmpeg write to a pipe: its
     frames are all whole ones to its end, and `info.frames` is 0.
     """
 
@@ -583,9 +583,9 @@ def create(
     split: Optional[int] = None,
     chunks: Optional[Chunks] = None,
 ) -> Writer:
-    """A new file, instead of one that is there: it has a header, and no frames yet. `like` has what isn't given.
+    """Creates a file over an existing one: it has a header, and no frames yet. `like` has what isn't given.
 
-    With `exclusive` a file that is there is a FileExistsError. It stays as it is then, and where an argument is wrong,
+    With `exclusive` an existing file is a FileExistsError. It stays as it is then, and also if an argument is wrong,
     the file is locked, or its folder can't be synced though it is to be durable. An object is cut off where it is; it
     can't be durable or locked.
 

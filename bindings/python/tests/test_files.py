@@ -368,8 +368,9 @@ class Files(unittest.TestCase):
 
     def test_what_helps_where_samples_are_given(self):
         for samples, bits, words in (
-            ([40000], 16, ": bits=24 holds more"), (array.array("h", [200]), 8, ": bits=16 holds more"),
-            ([1 << 23], 24, ": bits=32 holds more"), ([1 << 31], 32, ""), ([1 << 70], 16, ""), ([1e300], None, None),
+            ([40000], 16, "16 bits: bits=24 holds more"), (array.array("h", [200]), 8, "8 bits: bits=16 holds more"),
+            ([1 << 23], 24, "24 bits: bits=32 holds more"), ([1 << 31], 32, "32 bits"), ([1 << 70], 16, "32 bits"),
+            ([1e300], None, "32 bits"),
         ):  # fmt: skip
             form = {"bits": bits} if bits else {"like": hound.Info(8000, 1, 32, True)}
 
@@ -385,7 +386,7 @@ class Files(unittest.TestCase):
                 with self.assertRaises(HoundError) as caught:
                     call()
                 said = str(pickle.loads(pickle.dumps(caught.exception))).replace(self.path + ": ", "")
-                self.assertEqual(said, Cause.TOO_WIDE.sentence + (words or ""))
+                self.assertEqual(said, "a value doesn't fit in " + words)
         with self.assertRaisesRegex(HoundError, r'vice versa: give floats, such as array.array\("f", ..\)$'):
             hound.to_bytes(array.array("h", [1]), like=hound.Info(8000, 1, 32, True))
 
