@@ -36,13 +36,13 @@ const middleOf = (selector) => `(() => {
 })()`;
 
 /**
- * Chromium, by its protocol over a pipe, with a profile of its own: its first tab. Files are saved in a folder. A script
- * in `preload` is run in each tab before those of the page.
+ * Chromium, by its protocol over a pipe, with a profile of its own: its first tab. Files are saved in a folder. A
+ * script in `preload` is run in each tab before those of the page.
  */
 export async function chromium({profile, saved, flags = [], preload = "", detached = false}) {
   const all = [
-    "--headless=new", "--no-sandbox", "--disable-gpu", "--remote-debugging-pipe", `--user-data-dir=${profile}`, ...flags,
-    "about:blank"
+    "--headless=new", "--no-sandbox", "--disable-gpu", "--remote-debugging-pipe", `--user-data-dir=${profile}`,
+    ...flags, "about:blank"
   ];
   const child = spawn("chromium", all, {detached, stdio: ["ignore", "ignore", "ignore", "pipe", "pipe"]});
   for (const pipe of [child.stdio[3], child.stdio[4]]) pipe.on("error", () => {}); // It may be killed.

@@ -32,7 +32,8 @@ function answer({ id, result, error }) {
 worker.onmessage = ({ data }) => data.state ? showState(data.state) : data.ended ? ended(data.ended) : answer(data);
 worker.onerror = ({ message }) => say(`Something failed: ${message}. Reload the page: what was stored is kept.`, "bad");
 
-// What is recorded now, and whether it is paused; nothing otherwise.
+// What is recorded now; nothing otherwise. The other tabs with this page know when the list changes.
+const tabs = new BroadcastChannel("recordings");
 let session;
 
 function clock(seconds) {
@@ -131,7 +132,7 @@ async function start() {
   say("Allow the microphone where the browser asks.");
   element("notes").replaceChildren();
   show("starting");
-  const isKept = await within(navigator.storage.persist(), false);
+  navigator.storage.persist().then((isKept) => { element("kept").hidden = isKept; }); // It may never be settled.
   const stream = await openMicrophone(), [track] = stream.getAudioTracks(), settings = track.getSettings();
   let context;
   try {
@@ -147,10 +148,10 @@ async function start() {
     throw error;
   }
   watch(track, session.context);
-  element("kept").hidden = isKept;
   await within(session.context.resume());
   proceed("recording"); // Once it runs, since the first quanta aren't one after the other.
   say("");
+  tabs.postMessage("changed");
   showDevices();
 }
 
@@ -204,6 +205,7 @@ async function ended({ frames, lost }) {
   else if (frames === 0) say("Nothing was recorded.");
   await showList().catch((error) => say(sentenceOn(error), "bad"));
   show("ready");
+  tabs.postMessage("changed");
 }
 
 /** Shows that nothing is recorded. */
@@ -252,7 +254,8 @@ function rowOf(one) {
   const row = document.createElement("li"), title = titleOf(one), buttons = document.createElement("div");
   const [name, facts] = ["strong", "span"].map((kind) => document.createElement(kind));
   name.textContent = title;
-  facts.textContent = [one.frames ? lengthOf(one) : "", foundText(one), one.frames ? formatText(one) : ""].filter(Boolean).join(" \u00b7 ");
+  const texts = one.frames ? [lengthOf(one), foundText(one), formatText(one)] : [foundText(one)];
+  facts.textContent = texts.join(" \u00b7 ");
   facts.className = one.wasCutOff ? "cut" : "soft";
   if (one.frames) buttons.append(button("Play", title, () => play(one, row)), button("Save", title, () => save(one)));
   if (!one.isRecorded) buttons.append(button("Delete", title, () => remove(one), "second danger"));
@@ -293,6 +296,7 @@ async function remove(one) {
   if (dialog.returnValue !== "delete") return;
   await ask("remove", one);
   await showList();
+  tabs.postMessage("changed");
 }
 
 /** Names the recordings that were cut off since the page was open the last time, and says so. */
@@ -319,8 +323,8 @@ function lack() {
   if (!globalThis.isSecureContext || !navigator.mediaDevices || !navigator.locks) {
     return "Browsers lend a microphone only to a page from https or from this computer.";
   }
-  if (!navigator.storage?.getDirectory || !globalThis.AudioWorkletNode) return "This browser is too old to record here.";
-  return undefined;
+  const isOld = !navigator.storage?.getDirectory || !globalThis.AudioWorkletNode;
+  return isOld ? "This browser is too old to record here." : undefined;
 }
 
 const SERVE = "To record, this page has to be served: run npx hound_bindings serve, or hound-wav serve, and open the " +
@@ -347,6 +351,7 @@ async function main() {
     await look();
     await showDevices();
     show("ready");
+    tabs.onmessage = () => player.paused && showList();
   } catch (error) {
     say(error.name === "SecurityError" ? `This browser stores nothing for a page that is opened from the disk. ${SERVE}` : error.message, "bad");
   }
