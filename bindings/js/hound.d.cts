@@ -316,6 +316,56 @@ export function continueFile(
   options?: Recording & { chunks?: Iterable<Chunk> },
 ): Promise<Recorder>;
 
+export interface Follow {
+  /** How many frames a block has at most; 4096 without it. */
+  frames?: number;
+  /** How many milliseconds are between two looks at the file; 50 without it. */
+  poll?: number;
+  /**
+   * After how many milliseconds without a new frame it ends, once it isn't recorded any more: 2000 without it, and 0
+   * with `isRecorded`. Recorders of this package lock nothing, so without `isRecorded` it has to be longer than the
+   * time between two checkpoints.
+   */
+  idle?: number;
+  /**
+   * Whether it is still recorded, such as by a lock of `navigator.locks` that the recorder's page holds. It is asked
+   * where nothing new is counted, and before a last look: so what was counted before the answer is given. Without it a
+   * file is taken for recorded where another program has it locked, which only Linux says, and of files at paths.
+   */
+  isRecorded?: () => boolean | Promise<boolean>;
+  /** Whether it continues in the next file of a recording in parts, as take-002.wav after take.wav. */
+  parts?: boolean;
+}
+
+/**
+ * What is followed: a file at a path, in Node; that of a `FileSystemFileHandle` in a browser; or the Blobs that a
+ * function returns, each of which has the file as it is then.
+ */
+export type Followed = string | URL | { getFile(): Promise<Blob> } | (() => Blob | Promise<Blob>);
+
+/**
+ * Reads a recording while another program, worker or page makes it: the frames that its header counts so far, as `read`
+ * returns them, and further ones as soon as they are counted. Each is one that the recorder accepted. It ends where the
+ * recording has ended, also where its recorder was killed: `findDamageInFile` says whether a repair finds more. A file
+ * that was emptied, cut off or recorded anew meanwhile, or whose path another file has, is the error TRUNCATED.
+ */
+export function follow<T extends keyof Arrays>(
+  file: Followed,
+  options: Follow & { type: T; planar?: false },
+): AsyncGenerator<Arrays[T], void, void>;
+export function follow<T extends keyof Arrays>(
+  file: Followed,
+  options: Follow & { type: T; planar: true },
+): AsyncGenerator<Arrays[T][], void, void>;
+export function follow(
+  file: Followed,
+  options?: Follow & { planar?: false },
+): AsyncGenerator<Int16Array | Int32Array | Float32Array, void, void>;
+export function follow(
+  file: Followed,
+  options: Follow & { planar: true },
+): AsyncGenerator<Int16Array[] | Int32Array[] | Float32Array[], void, void>;
+
 /**
  * A file that is recorded. Calls are performed one after the other, in the order in which they are made. After an error
  * a block is in the file only if its `write` was fulfilled (or in part, if it is larger than a file of `split` may be),
@@ -323,48 +373,10 @@ export function continueFile(
  * killed, the header counts only samples that were written, at least those of the last checkpoint, and a repair finds
  * the others.
  *
- * A block of up to 64 KiB is written before `write` returns, unless an earlier call is under way. Larger blocks and
- * syncs go to other threads, and so do all blocks of a file after one that took 20 milliseconds.
+ * A block of up to 64 KiB is written before `write` returns, unless an earlier call is under way, and so is each block
+ * that goes to a medium whose calls return no promises. In Node larger blocks and syncs go to other threads, and so do
+ * all blocks of a file after one that took 20 milliseconds.
  */
-export interface Follow {
-  /** How many frames a block has at most; 4096 without it. */
-  frames?: number;
-  /** How many milliseconds are between two looks at the file; 50 without it. */
-  poll?: number;
-  /**
-   * After how many milliseconds without a new frame it ends, once no other program has the file locked: 2000 without
-   * it. Recorders of this package lock nothing, and only Linux says who does, so it has to be longer than the time
-   * between two checkpoints.
-   */
-  idle?: number;
-  /** Whether it continues in the next file of a recording in parts, as take-002.wav after take.wav. */
-  parts?: boolean;
-}
-
-/**
- * Reads a recording while another program makes it, in Node: the frames that its header counts so far, as `read`
- * returns them, and further ones as soon as they are counted. Each is one that the recorder accepted. It ends where the
- * recording has ended, also where its recorder was killed: `findDamageInFile` says whether a repair finds more. A file
- * that was emptied, cut off or recorded anew meanwhile is the error TRUNCATED; of one whose path another file has
- * now, the old one is read to its end.
- */
-export function follow<T extends keyof Arrays>(
-  path: string | URL,
-  options: Follow & { type: T; planar?: false },
-): AsyncGenerator<Arrays[T], void, void>;
-export function follow<T extends keyof Arrays>(
-  path: string | URL,
-  options: Follow & { type: T; planar: true },
-): AsyncGenerator<Arrays[T][], void, void>;
-export function follow(
-  path: string | URL,
-  options?: Follow & { planar?: false },
-): AsyncGenerator<Int16Array | Int32Array | Float32Array, void, void>;
-export function follow(
-  path: string | URL,
-  options: Follow & { planar: true },
-): AsyncGenerator<Int16Array[] | Int32Array[] | Float32Array[], void, void>;
-
 export interface Recorder {
   readonly spec: Readonly<Spec>;
   /** How many frames have room after those that are written, for a program that continues in another file; with

@@ -950,7 +950,7 @@ function* reading(medium, length, place) {
     that means nothing (32,721 of 10,000 bytes, of which 8,048 were there), and the header would count what isn't. */
 function* writing(medium, bytes, place) {
   for (let count = 0; count < bytes.length;) {
-    const part = bytes.subarray(count);
+    const part = count > 0 ? bytes.subarray(count) : bytes;
     count += someOf("written", yield medium.write(part, { at: place + count }), part.length);
   }
   if (medium instanceof NodeFile) return;
@@ -1463,26 +1463,61 @@ export async function continueFile(place, format, options = {}) {
 // How many of the last bytes that were given are read again, to see that the file still is that recording.
 const TAIL = 256;
 
-/** Reads at a place by this thread, and not ahead: a follower requests few bytes at once. */
-function readNow(handle, { place, length }) {
-  const bytes = new Uint8Array(length);
-  let count = 0;
-  for (let some = 1; some > 0 && count < length; count += some) {
-    some = node.readSync(handle.fd, bytes, count, length - count, place + count);
+/** A file of Node that is followed, of which a look requests a few bytes at once: those are read by this thread. */
+class FollowedFile {
+  #handle;
+
+  constructor(handle) {
+    this.#handle = handle;
   }
-  return bytes.subarray(0, count);
+
+  renew() {}
+
+  read(bytes, { at }) {
+    if (bytes.length <= FRONT) return node.readSync(this.#handle.fd, bytes, 0, bytes.length, at);
+    return this.#handle.read(bytes, 0, bytes.length, at).then(({ bytesRead }) => bytesRead);
+  }
+}
+
+// How often a read is tried again with a new Blob, where a recorder has changed the file since the one before.
+const TRIES = 100;
+
+/** The Blobs that a browser gives of a file that is recorded, one after the other. Once the file has changed, one of
+    Chromium can't be read any more, and one of Firefox has the bytes of now, but its old length. */
+class FollowedBlobs {
+  #blobOf;
+  #blob;
+
+  constructor(blobOf) {
+    this.#blobOf = blobOf;
+  }
+
+  async renew() {
+    this.#blob = await this.#blobOf();
+  }
+
+  async read(bytes, { at }) {
+    for (let left = TRIES; ; left--) {
+      try {
+        const part = await this.#blob.slice(at, at + bytes.length).arrayBuffer();
+        bytes.set(new Uint8Array(part));
+        return part.byteLength;
+      } catch (error) {
+        if (error.name !== "NotReadableError" || left === 0) throw error;
+        await this.renew();
+      }
+    }
+  }
 }
 
 /** A file that another program records. */
 class Followed {
-  #handle;
   #file;
   #machine = new Machine("follower");
   #given = 0; // How many bytes of samples were given.
   #tail = new Uint8Array(0); // The last of them.
 
-  constructor(handle, file) {
-    this.#handle = handle;
+  constructor(file) {
     this.#file = file;
   }
 
@@ -1508,54 +1543,62 @@ class Followed {
     return shared.specAt(FOUND);
   }
 
+  /** Whether samples were given. */
+  get hasGiven() {
+    return this.#given > 0;
+  }
+
   /** Looks at the header, unless more is counted already than was given, and returns whether more is. The look that
       finds the header counts nothing yet. */
-  look() {
+  *looking() {
+    if (this.#left > 0) return true;
+    yield this.#file.renew();
     let hasMore = true;
-    while (this.#left === 0 && hasMore) hasMore = this.#lookBy(this.#machine);
-    if (this.#left === 0 && this.#given > 0 && !this.#isSame()) this.#replaced();
+    while (this.#left === 0 && hasMore) hasMore = yield* this.#lookingBy(this.#machine);
+    if (this.#left === 0 && this.hasGiven && !(yield* this.#comparing())) this.#replaced();
     return this.#left > 0;
   }
 
   /** Whether a look finds something new. */
-  #lookBy(machine) {
+  *#lookingBy(machine) {
     for (;;) {
       const code = machine.call("follower_next", shared.at(MACHINE)), { effect } = machine;
       if (code === 0 || code === NOTHING_NEW) return code === 0;
-      if (code < 0) return this.#reject(code);
+      if (code < 0) return yield* this.#rejecting(code);
       if (effect.kind !== READ) throw unknownEffect();
-      machine.report(effect, readNow(this.#handle, effect));
+      machine.report(effect, yield* reading(this.#file, effect.length, effect.place));
     }
   }
 
-  #reject(code) {
-    const error = errorOf(code, callOver(readNow(this.#handle, { place: 0, length: FRONT }), "kind"));
+  *#rejecting(code) {
+    const error = errorOf(code, callOver(yield* reading(this.#file, FRONT, 0), "kind"));
     if (error.code !== "TRUNCATED") throw error;
     return this.#replaced();
   }
 
   /** Whether the last bytes that were given are where they were. Where none were the header is the same. */
-  #isSame() {
+  *#comparing() {
     const again = new Machine("follower"), { length } = this.#tail;
-    const place = this.#dataStart + this.#given - length;
-    if (this.#given === 0) this.#lookBy(again);
-    const [was, now] = this.#given === 0
-      ? [this.#head(), this.#head(again)] : [this.#tail, readNow(this.#handle, { place, length })];
-    return was.length === now.length && was.every((byte, i) => byte === now[i]);
+    if (this.hasGiven) {
+      return areEqual(this.#tail, yield* reading(this.#file, length, this.#dataStart + this.#given - length));
+    }
+    yield* this.#lookingBy(again);
+    return areEqual(this.#head(), this.#head(again));
   }
 
   /** Another recording was found in the file: an error, unless nothing was given of the one before. */
   #replaced() {
-    if (this.#given > 0) throw new HoundError("TRUNCATED");
+    if (this.hasGiven) throw new HoundError("TRUNCATED");
     this.#machine = new Machine("follower");
     return false;
   }
 
   /** The containers of the next frames that are counted, at most so many; none where it is another recording now. */
-  async take(frames) {
+  *taking(frames) {
     const { channels, bytesPerSample } = this.spec, length = Math.min(frames * channels * bytesPerSample, this.#left);
-    const bytes = await run(reading(this.#file, length, this.#dataStart + this.#given));
-    if (bytes.length < length || !this.#isSame()) this.#replaced();
+    yield this.#file.renew();
+    const bytes = yield* reading(this.#file, length, this.#dataStart + this.#given);
+    if (bytes.length < length || !(yield* this.#comparing())) this.#replaced();
     if (this.#left === 0) return new Uint8Array(0);
     this.#given += length;
     this.#tail = bytes.slice(-TAIL);
@@ -1572,43 +1615,67 @@ async function isLocked({ readFile }, handle) {
 
 const pause = (milliseconds) => new Promise((resolve) => setTimeout(resolve, milliseconds));
 
+/** Whether another file is at a path than this one. */
+async function isReplaced({ stat }, handle, path) {
+  const [there, { dev, ino }] = await Promise.all([stat(path).catch(() => undefined), handle.stat()]);
+  return there !== undefined && (there.dev !== dev || there.ino !== ino);
+}
+
 /**
- * Reads a recording at a path while another program makes it, in Node: a block of at most `frames` frames, as `read`
- * returns them, as soon as its header counts them. It looks every `poll` milliseconds, and ends once nothing new is
- * counted for `idle` milliseconds and no other program has the file locked. With `parts` it continues in the next file,
- * as of a recorder with `split`. A file that is emptied or recorded anew is an error.
+ * Reads a recording while another program makes it: a block of at most `frames` frames, as `read` returns them, as soon
+ * as its header counts them. The recording is at a path, in Node, in the file of a FileSystemFileHandle, or in the
+ * Blobs that a function returns. It looks every `poll` milliseconds, and ends once nothing new is counted for `idle`
+ * milliseconds, then `isRecorded` is false, and then a last look finds nothing new. Without `isRecorded` it ends where
+ * no other program has the file at a path locked. With `parts` it continues in the next file, as of a recorder with
+ * `split`. A file that is emptied, replaced or recorded anew is an error.
  */
-export async function* follow(path, options = {}) {
-  const { frames = 4096, poll = 50, idle = 2000, parts = false, ...how } =
-    checkedOptions(options, ["frames", "type", "planar", "poll", "idle", "parts"]);
+export async function* follow(place, options = {}) {
+  const { frames = 4096, poll = 50, isRecorded, idle = isRecorded ? 0 : 2000, parts = false, ...how } =
+    checkedOptions(options, ["frames", "type", "planar", "poll", "idle", "isRecorded", "parts"]);
   integer("frames", frames, 1, Number.MAX_SAFE_INTEGER);
   integer("poll", poll, 1, 0x7fffffff);
   integer("idle", idle, 0, 0x7fffffff);
   if (how.type !== undefined) typeNamed(how.type);
-  const fs = await files(), first = path instanceof URL ? path : (await nodePaths()).resolve(String(path));
-  for (let number = 1, name = first; name; number += 1) {
+  const untilEnded = (isGoingOn) => async (since) => {
+    await pause(poll);
+    return performance.now() - since < idle || isGoingOn();
+  };
+  const blobOf = typeof place?.getFile === "function" ? () => place.getFile() : place;
+  if (typeof blobOf === "function") {
+    if (parts) throw new TypeError("parts are files at paths, and this is none");
+    await ready();
+    const followed = new Followed(new FollowedBlobs(blobOf));
+    return yield* framesOf(followed, frames, how, untilEnded(isRecorded ?? (() => false)));
+  }
+  if (!isPath(place)) {
+    throw new TypeError("what is followed is a path, a FileSystemFileHandle, or a function that returns Blobs");
+  }
+  const fs = await files(), first = place instanceof URL ? place : (await nodePaths()).resolve(String(place));
+  for (let number = 1, name = first; name;) {
     const handle = await openAt(fs, name, "O_RDONLY"), next = pathOfPart(first, number + 1);
-    const file = new NodeFile(handle, name);
+    const followed = new Followed(new FollowedFile(handle));
+    let isOther;
     try {
-      await file.getSize();
-      yield* framesOf(new Followed(handle, file), frames, how, async (since) => {
-        await pause(poll);
-        return performance.now() - since < idle || await isLocked(fs, handle);
-      });
+      await new NodeFile(handle, name).getSize();
+      yield* framesOf(followed, frames, how, untilEnded(isRecorded ?? (() => isLocked(fs, handle))));
+      isOther = await isReplaced(fs, handle, name);
+      if (isOther && followed.hasGiven) throw new HoundError("TRUNCATED");
     } finally {
       await handle.close();
     }
+    if (isOther) continue; // Nothing was given of the file that was there before.
     name = parts && await fs.access(next).then(() => next, () => undefined);
+    number += 1;
   }
 }
 
 /** The blocks of a file that is followed, until `goesOn` says that nothing new comes. */
 async function* framesOf(followed, frames, { type, planar = false }, goesOn) {
   for (let since = performance.now(), isLast = false; ;) {
-    if (followed.look()) {
+    if (await run(followed.looking())) {
       const { spec } = followed;
       const form = typeNamed(type ?? (spec.isFloat ? "float32" : spec.bitsPerSample <= 16 ? "int16" : "int32"));
-      const bytes = await followed.take(Math.min(frames, Math.floor(BLOCK / spec.channels)));
+      const bytes = await run(followed.taking(Math.min(frames, Math.floor(BLOCK / spec.channels))));
       if (bytes.length > 0) yield blockOf(bytes, spec, form, planar);
       [since, isLast] = [performance.now(), false];
     } else if (isLast) {

@@ -178,7 +178,7 @@ def followers_in(folder):
     if shutil.which("node"):
         in_node = program(folder, "follow.mjs", FOLLOWS_IN_NODE)
         words = lambda path, idle, parts: ["node", in_node, path, str(idle + STARTED), *["parts"] * parts]  # noqa: E731
-        kinds["Node"] = Follower(words, {"parts"}, "TRUNCATED")
+        kinds["Node"] = Follower(words, {"parts", "path"}, "TRUNCATED")
     else:
         print("follow: passed over, since node isn't here: its follower")
     if shutil.which("cargo"):

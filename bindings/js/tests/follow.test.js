@@ -7,8 +7,8 @@ import { createRequire } from "node:module";
 import os from "node:os";
 import path from "node:path";
 import { HoundError, follow, record, write } from "../hound.js";
+import { Held, SPEC, block, blocks } from "./held.js";
 
-const SPEC = { sampleRate: 8000, channels: 2, bitsPerSample: 16 };
 const folder = await fs.mkdtemp(path.join(os.tmpdir(), "hound-")), take = path.join(folder, "take.wav");
 test.after(() => fs.rm(folder, { recursive: true }));
 const fails = (promise, code) => assert.rejects(promise, (error) => error instanceof HoundError && error.code === code);
@@ -81,6 +81,88 @@ test("what isn't that recording any more is an error", async () => {
     await fs.writeFile(take, other);
     await fails(blocks.next(), "TRUNCATED");
   }
+});
+
+test("another file at the path is an error, or followed where nothing was given; a removed one is read", async () => {
+  const whole = await write(frames(0, 4), SPEC), other = path.join(folder, "other.wav");
+  const replace = async () => {
+    await fs.writeFile(other, await write(frames(9, 5), SPEC));
+    await fs.rename(other, take);
+  };
+  await fs.writeFile(take, whole);
+  const replaced = follow(take, { poll: 1, idle: 20 });
+  assert.deepEqual([...(await replaced.next()).value], [...frames(0, 4)]);
+  await replace();
+  await fails(replaced.next(), "TRUNCATED");
+
+  await fs.writeFile(take, "");
+  const begun = all(take, { idle: 50 });
+  await new Promise((resolve) => setTimeout(resolve, 20));
+  await replace();
+  assert.deepEqual(await begun, [...frames(9, 5)]);
+
+  const removed = follow(take, { poll: 1, idle: 20 });
+  await removed.next();
+  await fs.unlink(take);
+  assert.ok((await removed.next()).done);
+});
+
+/** A handle, as a browser has it, of a file in an array, which may change in the step before each read. Its Blobs are
+    copies; or as Chromium's, which can't be read once the file has changed; or as Firefox's, which have the bytes of
+    now and the length of before. */
+function handleOf(held, kind, step = () => {}) {
+  const getFile = async () => {
+    const copy = held.bytes.slice(), changes = held.calls.length;
+    const read = async (from, to) => {
+      await step();
+      if (kind === "firefox") return held.bytes.slice(from, Math.min(to, copy.length)).buffer;
+      if (kind === "copies" || held.calls.length === changes) return copy.slice(from, to).buffer;
+      throw new DOMException("the file has changed", "NotReadableError");
+    };
+    return { slice: (from, to) => ({ arrayBuffer: () => read(from, to) }) };
+  };
+  return { getFile };
+}
+
+test("a browser's file is followed while it is recorded, up to its last checkpoint", async () => {
+  for (const kind of ["copies", "chromium", "firefox"]) {
+    const held = new Held(), recorder = await record(held, SPEC), last = 40, given = [];
+    let count = 0, reads = 0;
+    const step = async () => {
+      if (reads++ % 5 > 0 || count === last) return;
+      await recorder.write(block(count++));
+      if (count % 3 === 0) await recorder.flush();
+    };
+    const isRecorded = async () => {
+      if (count < last) return true;
+      await recorder.close(); // Its last checkpoint comes right before the answer.
+      return false;
+    };
+    for await (const samples of follow(handleOf(held, kind, step), { poll: 1, isRecorded })) {
+      given.push(...samples);
+      assert.ok(given.length <= 2 * recorder.counted);
+    }
+    assert.deepEqual(given, blocks(...Array.from({ length: last }, (_, i) => i)), kind);
+  }
+});
+
+test("Blobs of a function are followed until nothing new comes, and what is wrong with them is an error", async () => {
+  const whole = await write(frames(0, 6), SPEC);
+  for (const blobOf of [() => new Blob([whole]), async () => new Blob([whole])]) {
+    assert.deepEqual(await all(blobOf), [...frames(0, 6)]);
+  }
+  for (const kind of ["copies", "firefox"]) {
+    const held = Object.assign(new Held(), { bytes: whole }), blocks = follow(handleOf(held, kind), { poll: 1 });
+    await blocks.next();
+    held.bytes = new Uint8Array(0);
+    await fails(blocks.next(), "TRUNCATED");
+  }
+  const held = Object.assign(new Held(), { bytes: whole }), step = () => held.calls.push("write");
+  await assert.rejects(all(handleOf(held, "chromium", step)), { name: "NotReadableError" });
+  const gone = new DOMException("it is gone", "NotFoundError");
+  await assert.rejects(all({ getFile: () => Promise.reject(gone) }), { name: "NotFoundError" });
+  await assert.rejects(all(() => new Blob([whole]), { parts: true }), TypeError);
+  await assert.rejects(all(new Blob([whole])), TypeError);
 });
 
 test("a header is waited for, and one that isn't read is named", async () => {

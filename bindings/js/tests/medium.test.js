@@ -4,81 +4,10 @@ import { test } from "node:test";
 import {
   HoundError, appendTo, continueFile, findDamageInFile, info, read, record, repairFile,
 } from "../hound.js";
+import { Held, SPEC, START, block, blocks, fileOf, through } from "./held.js";
 
-const SPEC = { sampleRate: 8000, channels: 2, bitsPerSample: 16 }, START = 44;
 const fails = (promise, code) => assert.rejects(promise, (error) => error instanceof HoundError && error.code === code);
 
-/** Three frames of two channels, which differ from those of each other number. */
-const block = (number) => Int16Array.from({ length: 6 }, (_, i) => 10 * number + i);
-const blocks = (...numbers) => numbers.flatMap((number) => [...block(number)]);
-
-/** The file of these blocks in the canonical layout, made from the format alone. */
-function fileOf(...numbers) {
-  const data = Buffer.from(Int16Array.from(blocks(...numbers)).buffer), file = Buffer.alloc(START + data.length);
-  for (const [place, text] of [[0, "RIFF"], [8, "WAVEfmt "], [36, "data"]]) file.write(text, place, "latin1");
-  const words = [[4, file.length - 8], [16, 16], [24, 8000], [28, 32000], [40, data.length]];
-  for (const [place, value] of words) file.writeUInt32LE(value, place);
-  for (const [place, value] of [[20, 1], [22, 2], [32, 4], [34, 16]]) file.writeUInt16LE(value, place);
-  data.copy(file, START);
-  return new Uint8Array(file);
-}
-
-/** A medium over an array. A read and a write do at most so many bytes. */
-class Held {
-  bytes = new Uint8Array(0);
-  calls = [];
-
-  constructor(most = Infinity) {
-    this.most = most;
-  }
-
-  getSize() {
-    return this.bytes.length;
-  }
-
-  read(into, { at }) {
-    const part = this.bytes.subarray(at, at + Math.min(into.length, this.most));
-    into.set(part);
-    return part.length;
-  }
-
-  write(from, { at }) {
-    this.calls.push(at < START ? "header" : "block");
-    const part = from.subarray(0, this.most);
-    if (at + part.length > this.bytes.length) this.#resize(at + part.length);
-    this.bytes.set(part, at);
-    return part.length;
-  }
-
-  truncate(size) {
-    this.calls.push("truncate");
-    this.#resize(size);
-  }
-
-  flush() {
-    this.calls.push("flush");
-  }
-
-  close() {
-    this.calls.push("close");
-  }
-
-  #resize(size) {
-    const bytes = new Uint8Array(size);
-    bytes.set(this.bytes.subarray(0, size));
-    this.bytes = bytes;
-  }
-
-  get kinds() {
-    return this.calls.filter((name, i) => name !== this.calls[i - 1]).join();
-  }
-}
-
-/** A medium whose calls are these, the name and the arguments of which `made` gets with what performs them. */
-const through = (held, made) => Object.fromEntries(
-  ["getSize", "read", "write", "truncate", "flush", "close"].map((name) =>
-    [name, (...given) => made(name, (...changed) => held[name](...changed), given)]),
-);
 const atOnce = (held) => held;
 const byPromises = (held) => through(held, async (_, real, given) => {
   await new Promise((resolve) => setImmediate(resolve));
@@ -125,11 +54,20 @@ test("files are recorded, continued and repaired in media whose calls return pro
     await (await continueFile(medium, SPEC)).close();
     assert.deepEqual(held.bytes, fileOf());
 
+    held.calls.length = 0;
     await assert.rejects(record(medium, SPEC, { exclusive: true }), { code: "EEXIST" });
-    assert.deepEqual(held.bytes, fileOf());
+    assert.deepEqual([held.bytes, held.calls], [fileOf(), []]);
     await (await record(medium, SPEC)).close();
     assert.deepEqual(held.bytes, fileOf());
   }
+});
+
+test("a browser has no setImmediate, and none is called", async (t) => {
+  const held = new Held(), recorder = await record(held, SPEC), { setImmediate } = globalThis;
+  globalThis.setImmediate = undefined;
+  t.after(() => { globalThis.setImmediate = setImmediate; });
+  for (let i = 0, end = performance.now() + 20; i === 0 || performance.now() < end; i++) await recorder.write(block(i));
+  await recorder.close();
 });
 
 test("what is durable is flushed before the header counts it, and else nothing is", async () => {
@@ -224,4 +162,105 @@ test("what is no medium is an error that says why, and nothing of it is called",
   const recorder = await record(new Held(), SPEC, { split: 3, next: () => stream });
   await recorder.write(block(1));
   await assert.rejects(recorder.write(block(2)), TypeError);
+});
+
+/** A medium the flushes of which fail while `isOn`, from this one on. */
+function failingFlushes(held, first) {
+  let number = 0;
+  const medium = Object.assign(through(held, (name, real, given) => {
+    if (name === "flush" && medium.isOn && ++number >= first) throw new Error("EIO");
+    return real(...given);
+  }), { isOn: false });
+  return medium;
+}
+
+test("a sync that failed is final, and what wasn't counted goes on in another medium", async () => {
+  const how = { durable: true }, all = Int16Array.from(blocks(1, 2, 3));
+  for (const made of [atOnce, byPromises]) for (const first of [1, 2]) { // before and after the header's bytes
+    const held = new Held(), medium = failingFlushes(held, first), recorder = await record(made(medium), SPEC, how);
+    await recorder.write(block(1));
+    assert.equal(recorder.counted, 0);
+    await recorder.flush();
+    await recorder.write(block(2));
+    medium.isOn = true;
+    await assert.rejects(recorder.flush(), { message: "EIO" });
+    medium.isOn = false;
+    for (const call of [() => recorder.flush(), () => recorder.write(block(3)), () => recorder.close()]) {
+      await fails(call(), "SYNC_FAILED");
+    }
+    assert.deepEqual([recorder.counted, recorder.tell(), held.calls.at(-1)], [3, 6, "close"]);
+
+    const other = new Held(), next = await record(made(other), SPEC, how);
+    await next.write(all.subarray(2 * recorder.counted));
+    await next.close();
+    const older = await read(held.bytes);
+    assert.deepEqual(older, all.subarray(0, older.length));
+    assert.deepEqual([...older.subarray(0, 2 * recorder.counted), ...await read(other.bytes)], [...all]);
+  }
+});
+
+test("a write makes a checkpoint that is due, later after one that took long, and else none", async (t) => {
+  let now = 5000, takes = 0;
+  t.mock.method(performance, "now", () => now);
+  const held = new Held(), medium = through(held, (name, real, given) => {
+    if (name === "flush") now += takes;
+    return real(...given);
+  });
+  const recorder = await record(medium, SPEC, { durable: true, checkpoint: 1000 });
+  /** Writes a block at this time, and returns how many blocks are counted then. */
+  const writeAt = async (time) => {
+    now = time;
+    await recorder.write(block(0));
+    return recorder.counted / 3;
+  };
+  assert.deepEqual([await writeAt(5999), await writeAt(6000), await writeAt(6999)], [0, 1, 1]);
+  takes = 400;
+  assert.equal(await writeAt(7000), 3);
+  const taken = now - 7000; // Of a checkpoint, which has some flushes.
+  assert.ok(taken > 500);
+  assert.deepEqual([await writeAt(7000 + 3 * taken - 1), await writeAt(7000 + 3 * taken)], [3, 5]);
+  takes = 0;
+  await recorder.flush(); // The next one is due a second after this one, too.
+  const before = now;
+  assert.deepEqual([await writeAt(before + 999), await writeAt(before + 1000)], [6, 7]);
+  assert.equal((await info(held.bytes)).frames, 3 * 7);
+  now += 1000;
+  const { write } = medium;
+  medium.write = () => {
+    throw new Error("full");
+  };
+  await assert.rejects(recorder.write(block(9)), { message: "full" }); // So the block isn't there.
+  medium.write = write;
+  await recorder.close();
+  assert.deepEqual(held.bytes, fileOf(...Array.from({ length: 8 }, () => 0)));
+  for (const checkpoint of [0, 1.5, -1, NaN]) await assert.rejects(record(held, SPEC, { checkpoint }), RangeError);
+});
+
+test("after a call that failed a block is in the file only if its write was fulfilled", async () => {
+  for (const made of [atOnce, byPromises]) for (const durable of [false, true]) {
+    let number = 0, calls = Infinity;
+    for (; number < calls; number++) {
+      const held = new Held(), kept = [];
+      calls = 0;
+      const medium = made(through(held, (name, real, [first, ...others]) => {
+        if (calls++ !== number) return real(first, ...others);
+        if (name === "write") real(first.subarray(0, first.length >> 1), ...others);
+        throw new Error("EIO");
+      }));
+      const recorder = await record(medium, SPEC, { durable }).catch(() => undefined);
+      for (let i = 1; recorder && i < 6; i++) {
+        await recorder.write(block(i)).then(() => kept.push(i), () => {});
+        if (i % 2 === 0) await recorder.flush().catch(() => {});
+      }
+      const isWhole = await recorder?.close().then(() => true, () => false);
+      if (isWhole) assert.deepEqual(held.bytes, fileOf(...kept));
+      else if (recorder) {
+        const found = await read(held.bytes);
+        assert.ok(found.length >= 2 * recorder.counted);
+        assert.deepEqual([...found], blocks(...kept).slice(0, found.length));
+      }
+      if (number < calls) calls = Infinity; // There may be more of them where none fails.
+    }
+    assert.ok(number > 20, `${number} calls`);
+  }
 });

@@ -1,7 +1,7 @@
 // What hound.d.ts declares: `tsc` accepts this file, where each call has its arguments and its result.
 import {
-  HoundError, append, appendTo, continueFile, findDamage, findDamageInFile, info, read, record, repair, repairFile,
-  write,
+  HoundError, append, appendTo, continueFile, findDamage, findDamageInFile, follow, info, read, record, repair,
+  repairFile, write,
 } from "../hound.js";
 import type { Damage, Info, Medium, Recorder } from "../hound.js";
 
@@ -55,6 +55,18 @@ export async function over(medium: Medium, handle: AccessHandle): Promise<number
   await record("take.wav", recorder.spec, { split: 100, next });
   return (await findDamageInFile(handle)).frames + (await repairFile(medium)).frames + recorder.counted;
 }
+
+/** Recordings that are read while they are made. */
+export async function followed(file: Blob, handle: { getFile(): Promise<Blob> }): Promise<number> {
+  let count = 0;
+  for await (const block of follow(handle, { type: "int32", isRecorded: async () => false })) count += block.length;
+  for await (const [left] of follow(() => file, { planar: true, idle: 10 })) count += left!.length;
+  for await (const block of follow("take.wav", { parts: true, isRecorded: () => true })) count += block.length;
+  // @ts-expect-error: a Blob doesn't change.
+  follow(file);
+  return count;
+}
+
 interface AccessHandle {
   getSize(): number;
   read(bytes: ArrayBufferView, options?: { at?: number }): number;
