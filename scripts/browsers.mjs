@@ -5,17 +5,22 @@ import os from "node:os";
 import path from "node:path";
 import {pathToFileURL} from "node:url";
 
+// How many milliseconds an answer may take. A browser was seen to give none, and a test has to end then, too.
+const PATIENCE = 300000;
+
 /** Requests with a number each, and the answers to them. */
 function conversation(write) {
   const pending = new Map();
   let id = 0;
   return {
     send: (method, params = {}, sessionId = undefined) => new Promise((resolve, reject) => {
-      pending.set(++id, {resolve, reject});
+      const timer = setTimeout(() => reject(new Error(`the browser doesn't answer ${method}`)), PATIENCE).unref();
+      pending.set(++id, {resolve, reject, timer});
       write(JSON.stringify({id, method, params, sessionId}));
     }),
     take({id, result, error, message}) {
-      const {resolve, reject} = pending.get(id);
+      const {resolve, reject, timer} = pending.get(id);
+      clearTimeout(timer);
       pending.delete(id);
       error ? reject(new Error(JSON.stringify(message ?? error))) : resolve(result);
     },
@@ -25,7 +30,7 @@ function conversation(write) {
 
 // An expression whose value comes as text from either browser.
 const asText = (expression) => `(async () => JSON.stringify(await (${expression}) ?? null))()`;
-export const exit = (child) => child.exitCode !== null || new Promise((resolve) => child.on("exit", resolve));
+const exit = (child) => child.exitCode !== null || new Promise((resolve) => child.on("exit", resolve));
 
 // Of the page: where the middle of an element is, after it is scrolled into the window.
 const middleOf = (selector) => `(() => {

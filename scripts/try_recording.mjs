@@ -4,15 +4,15 @@
 // is opened again, and what it saves has to have each sample up to the last checkpoint that it had reported, in order,
 // and nothing else. What else may happen to a recording is tried, too, and wrong versions of the page have to be found.
 // A browser that isn't here is named and passed over.
-//   scripts/try_recording.mjs [--kills COUNT] [--pictures FOLDER] [--only BROWSER] [--parts conditions,wrong,kills]
-//                                                                              (without --kills there are 10)
+//   scripts/try_recording.mjs [--kills COUNT] [--pictures FOLDER] [--only BROWSER] [--parts WORD,..]
+//   (the parts are conditions, disk, wrong and kills, of which there are 10 unless COUNT is given)
 import {spawn, spawnSync} from "node:child_process";
 import fs from "node:fs";
 import os from "node:os";
 import path from "node:path";
 import {fileURLToPath} from "node:url";
 import {parseArgs} from "node:util";
-import {chromium, contrasts, exit, firefox, must, once, pause, until} from "./browsers.mjs";
+import {chromium, contrasts, firefox, must, once, pause, until} from "./browsers.mjs";
 
 const string = {type: "string"}, {values: {kills, pictures, only, parts}} = parseArgs(
   {options: {kills: {...string, default: "10"}, pictures: string, only: string, parts: string}});
@@ -186,18 +186,22 @@ async function show(tab) {
   await phase(tab, "ready");
 }
 
+/** Clicks: in Firefox by a call, because its protocol was seen to answer nothing to a click on a busy computer. */
+const click = (tab, selector) =>
+  tab.call ? tab.click(selector) : tab.evaluate(`document.querySelector(${JSON.stringify(selector)}).click()`);
+
 async function startRecording(tab) {
-  await tab.click("#record");
+  await click(tab, "#record");
   await phase(tab, "recording");
 }
 
 async function stopRecording(tab) {
-  await tab.click("#stop");
+  await click(tab, "#stop");
   await phase(tab, "ready");
 }
 
 const rows = (tab) => tab.evaluate(`[...document.querySelectorAll("#list li")].map((row) => row.innerText)`);
-const press = (tab, row, text) => tab.click(`#list li:nth-child(${row}) button[aria-label^="${text}"]`);
+const press = (tab, row, text) => click(tab, `#list li:nth-child(${row}) button[aria-label^="${text}"]`);
 
 /** Saves a recording, and returns what is in the file. */
 async function save(tab, row = 1) {
@@ -239,7 +243,7 @@ async function removeAll(tab) {
   for (let left; (left = (await rows(tab)).length) > 0;) {
     await press(tab, 1, "Delete");
     await once(tab, `document.getElementById("dialog").open`, "it asks");
-    await tab.click("#delete");
+    await click(tab, "#delete");
     await once(tab, `document.querySelectorAll("#list li").length === ${left - 1}`, "it is deleted");
   }
 }
@@ -280,8 +284,7 @@ async function check(browser, stored) {
 const WAYS = ["browser", "all", "tab"];
 
 /** A browser with a new profile, on the page. */
-async function openNew(kind, edits = [], isReal = false) {
-  const folder = fs.mkdtempSync(path.join(work, `${kind.program}-`));
+async function openNew(kind, edits = [], isReal = false, folder = fs.mkdtempSync(path.join(work, `${kind.program}-`))) {
   const browser = Object.assign(await open(kind, path.join(folder, "0"), edits, isReal), {edits});
   await show(browser);
   return browser;
@@ -340,14 +343,14 @@ async function tryPause(tab) {
   await startRecording(tab);
   const before = await moreThan(tab, 0);
   await tryLooks(tab, "recording");
-  await tab.click("#pause");
+  await click(tab, "#pause");
   await phase(tab, "paused");
   const isAllStored = `stored.textContent.endsWith(" " + time.textContent)`;
   await once(tab, `(({stored, time}) => ${isAllStored})(document.all)`, "all is stored in a pause");
   const paused = await moreThan(tab, before - 1);
   await pause(1500);
   must(await storedIn(tab) === paused, "nothing is stored in a pause");
-  await tab.click("#pause");
+  await click(tab, "#pause");
   const after = await moreThan(tab, paused);
   await stopRecording(tab);
   const {frames, breaks} = await mustBeWhole(tab, after, 1);
@@ -358,7 +361,7 @@ async function tryPause(tab) {
   await tryLooks(tab, "list");
   await press(tab, 1, "Delete");
   await once(tab, `document.getElementById("dialog").open`, "it asks");
-  await tab.click("#cancel");
+  await click(tab, "#cancel");
   must((await rows(tab)).length === 1, "what isn't to be deleted is kept");
 }
 
@@ -412,10 +415,10 @@ async function tryFull(tab) {
 /** The disk is full: the recording is stopped, waits for room, and is given up. */
 async function giveUp(tab) {
   await says(tab, "The disk is full: free some space. Nothing is lost yet", "the disk is full");
-  await tab.click("#stop");
+  await click(tab, "#stop");
   await phase(tab, "ending");
   await once(tab, `document.getElementById("give-up").checkVisibility()`, "the rest can be given up");
-  await tab.click("#give-up");
+  await click(tab, "#give-up");
   await phase(tab, "ready");
   const said = await shows(tab, "said"), [, stored] = /^(\d+:\d\d) are stored\. \d+\.\d s are lost\.$/.exec(said) ?? [];
   must(stored, `it says ${said}`);
@@ -492,7 +495,7 @@ async function tryDenied(tab) {
   const set = (setting) =>
     tab.send("Browser.setPermission", {permission: {name: "microphone"}, setting, origin: new URL(URL_OF_PAGE).origin});
   await set("denied");
-  await tab.click("#record");
+  await click(tab, "#record");
   await says(tab, "This page may not use the microphone", "it isn't allowed");
   await phase(tab, "ready");
   must((await rows(tab)).length === 0, "nothing is begun");
@@ -541,6 +544,48 @@ async function tryLooks(tab, what) {
   const unnamed =
     nodes.filter(({role, name, ignored}) => !ignored && named.includes(role?.value.toLowerCase()) && !name?.value);
   must(unnamed.length === 0, `${what}: a screen reader has no name for ${JSON.stringify(unnamed)}`);
+}
+
+const disks = new Set();
+const unmount = (folder) => spawnSync("umount", ["--lazy", folder]);
+
+/** Fills a disk with a file, but for half a MiB or what the browser leaves of that. */
+function fill(disk, file) {
+  const left = ({bavail, bsize} = fs.statfsSync(disk)) => bavail * bsize;
+  try {
+    while (left() > 2 ** 19) fs.appendFileSync(file, Buffer.alloc(Math.min(left() - 2 ** 19, 2 ** 20)));
+  } catch (error) {
+    if (error.code !== "ENOSPC") throw error;
+  }
+}
+
+/** A real disk that is full while it records, and has room again: one of memory, where this system makes one. */
+async function tryDisk(kind) {
+  const folder = fs.mkdtempSync(path.join(work, "disk-")), filler = path.join(folder, "filler");
+  if (spawnSync("mount", ["-t", "tmpfs", "-o", "size=400m", "none", folder]).status !== 0) {
+    return console.log(`recording: passed over, since no disk can be mounted: a full disk in ${kind.program}`);
+  }
+  disks.add(folder);
+  const browser = await openNew(kind, [], false, folder);
+  try {
+    await startRecording(browser);
+    await moreThan(browser, 0);
+    fill(folder, filler);
+    await says(browser, "The disk is full: free some space. Nothing is lost yet", "the disk is full");
+    const stored = await storedIn(browser);
+    await pause(3000);
+    fs.rmSync(filler);
+    await says(browser, "It is stored again.", "there is room again");
+    const more = await moreThan(browser, stored + 2 * RATE);
+    await stopRecording(browser);
+    await mustBeWhole(browser, more);
+  } catch (error) {
+    throw new Error(`${kind.program}, a disk that is full: ${error.message}`);
+  } finally {
+    await killAll(browser);
+    unmount(folder);
+  }
+  console.log(`recording: a disk that is full, and has room again, in ${kind.program}`);
 }
 
 // What is tried in each browser but kills: its name, what is done, edits of the page, and whether only Chromium's
@@ -622,7 +667,7 @@ async function takePicture(kind) {
   await startRecording(browser);
   await moreThan(browser, 37 * RATE);
   browser = await killAndOpen(browser, "all");
-  await browser.resize(800, 760, 1);
+  await browser.resize(800, 860, 1);
   await browser.setScheme("light");
   await startRecording(browser);
   await moreThan(browser, 12 * RATE);
@@ -635,6 +680,7 @@ async function takePicture(kind) {
 async function tryIn(kind) {
   const isTried = (part) => !parts || parts.split(",").includes(part);
   if (isTried("conditions")) await tryConditions(kind);
+  if (isTried("disk")) await tryDisk(kind);
   if (isTried("wrong") && kind.program === "chromium") await tryWrong(kind);
   if (pictures && kind.program === "chromium") await takePicture(kind);
   if (!isTried("kills")) return;
@@ -667,6 +713,7 @@ main()
   })
   .finally(() => {
     started.forEach(({pid}) => alive(pid).forEach(kill));
+    disks.forEach(unmount);
     fs.rmSync(work, {recursive: true, force: true, maxRetries: 5});
     process.exit();
   });

@@ -3,8 +3,9 @@ const element = (id) => document.getElementById(id);
 const [device, rate, form, recordButton, pauseButton, stopButton, giveUpButton, player, dialog] =
   ["device", "rate", "form", "record", "pause", "stop", "give-up", "player", "dialog"].map(element);
 
-// How long something is waited for that a browser may never say, in milliseconds.
-const PATIENCE = 2000;
+// How long something is waited for that a browser may never say, in milliseconds; and how many places are named where
+// sound is missing.
+const [PATIENCE, PLACES] = [2000, 5];
 const pause = (milliseconds, value) => new Promise((resolve) => setTimeout(resolve, milliseconds, value));
 const within = (promise, otherwise) => Promise.race([promise, pause(PATIENCE, otherwise)]);
 
@@ -66,11 +67,19 @@ function showState({ frames, counted, missing, fault, peak, isLoud }) {
   element("stored").textContent = `Stored up to ${timeOf(counted)}`;
   element("stored").dataset.frames = counted;
   showLevel(peak, isLoud);
-  const notes = missing.map(({ frame, seconds }) => `${seconds.toFixed(2)} s are missing at ${timeOf(frame)}.`);
-  if (element("notes").children.length !== notes.length) {
-    element("notes").replaceChildren(...notes.map((textContent) => Object.assign(document.createElement("li"), { textContent })));
-  }
+  if (missing.length !== session.missing) showMissing(missing, timeOf);
   if (Boolean(fault) !== session.isFaulty) showFault(fault, timeOf(counted));
+}
+
+/** Names what is missing, and of many places only the last one. */
+function showMissing(missing, timeOf) {
+  session.missing = missing.length;
+  const each = missing.map(({ frame, seconds }) => `${seconds.toFixed(2)} s are missing at ${timeOf(frame)}.`);
+  const total = missing.reduce((sum, { seconds }) => sum + seconds, 0), last = missing.at(-1);
+  const texts = missing.length <= PLACES ? each :
+    [`${total.toFixed(2)} s are missing at ${missing.length} places, the last one at ${timeOf(last.frame)}.`];
+  const rows = texts.map((textContent) => Object.assign(document.createElement("li"), { textContent }));
+  element("notes").replaceChildren(...rows);
 }
 
 function showFault(fault, stored) {
@@ -141,7 +150,7 @@ async function start() {
     const node = await connect(stream, channels, context), { port1, port2 } = new MessageChannel();
     await ask("start", { format: { sampleRate, channels, bitsPerSample, isFloat: bitsPerSample === 32 } }, [port2]);
     node.port.postMessage(null, [port1]);
-    session = { context, node, stream, sampleRate, isFaulty: false };
+    session = { context, node, stream, sampleRate, isFaulty: false, missing: 0 };
   } catch (error) {
     track.stop();
     await context?.close();
