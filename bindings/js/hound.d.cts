@@ -215,9 +215,10 @@ export function repair(file: Blob, options?: RepairOptions): Promise<Damage & { 
  * promise. A read or a write may do a part of what it is asked for, and says how many bytes that is; only at the end of
  * the file a read says 0. An error is thrown.
  *
- * What is written is read again, because a browser was seen to say of a full disk that all is written. `flush` has to
- * store what was written; a recorder calls it with `durable` alone, and a repair always. Nothing else may write the
- * file meanwhile.
+ * What is written is read again, because a browser was seen to say of a full disk that all is written; where it isn't
+ * there, the error is NOT_PERFORMED. `write` has to give the bytes to the system, so that they outlive the program, and
+ * `flush` has to store them; a recorder calls that with `durable` alone, and a repair always. Nothing else may write
+ * the file meanwhile.
  *
  * A recorder closes its medium when it is closed. A repair leaves it open, and so does a call that fails to begin.
  *
@@ -374,8 +375,9 @@ export function follow(
  * the others.
  *
  * A block of up to 64 KiB is written before `write` returns, unless an earlier call is under way, and so is each block
- * that goes to a medium whose calls return no promises. In Node larger blocks and syncs go to other threads, and so do
- * all blocks of a file after one that took 20 milliseconds.
+ * that goes to a medium whose calls return no promises: a worker of a browser gets no message in a loop that waits for
+ * such writes alone. In Node larger blocks and syncs go to other threads, and so do all blocks of a file after one that
+ * took 20 milliseconds.
  */
 export interface Recorder {
   readonly spec: Readonly<Spec>;
