@@ -345,9 +345,12 @@ async function tryPause(tab) {
   await tryLooks(tab, "recording");
   await click(tab, "#pause");
   await phase(tab, "paused");
-  const isAllStored = `stored.textContent.endsWith(" " + time.textContent)`;
-  await once(tab, `(({stored, time}) => ${isAllStored})(document.all)`, "all is stored in a pause");
-  const paused = await moreThan(tab, before - 1);
+  const paused = await until(async () => { // The last blocks are stored, and then nothing is.
+    const stored = await storedIn(tab);
+    await pause(1000);
+    return stored === await storedIn(tab) && stored;
+  });
+  must(paused >= before, `${paused} frames are stored after ${before} were`);
   await pause(1500);
   must(await storedIn(tab) === paused, "nothing is stored in a pause");
   await click(tab, "#pause");

@@ -156,10 +156,10 @@ async function start() {
     await context?.close();
     throw error;
   }
-  watch(track, session.context);
   await within(session.context.resume());
   proceed("recording"); // Once it runs, since the first quanta aren't one after the other.
   say("");
+  watch(track, session.context);
   tabs.postMessage("changed");
   showDevices();
 }
@@ -174,23 +174,26 @@ function proceed(phase) {
 /** Looks after what may happen to the microphone. */
 function watch(track, context) {
   track.onended = () => {
-    if (session?.phase === "ending" || !session) return;
+    if (!session || session.phase === "ending") return;
     say("The microphone is gone, or may not be used any more. The recording has ended: all it gave is stored.", "bad");
     stop();
   };
   track.onmute = () => say("The microphone gives nothing: it may be muted.", "bad");
-  track.onunmute = () => say("");
+  const isBack = () => session?.isFaulty || say("");
+  track.onunmute = isBack;
   context.onstatechange = () => {
     if (session && session.phase !== "ending" && context.state !== "running") {
       say(`The browser has stopped the sound (${context.state}): what comes now is missing.`, "bad");
-      context.resume().then(() => say(""));
+      context.resume().then(isBack);
     }
   };
+  if (track.readyState === "ended") track.onended(); // It may have ended before.
+  else context.onstatechange();
 }
 
 /** Keeps the screen on while it records, so that the computer doesn't sleep; a browser ends that with each hiding. */
 async function holdScreen() {
-  if (session?.phase !== "recording" || document.hidden) return;
+  if (session?.phase !== "recording" || document.hidden || session.wakeLock?.released === false) return;
   session.wakeLock = await navigator.wakeLock?.request("screen").catch(() => undefined);
 }
 
@@ -243,8 +246,7 @@ const lengthOf = ({ frames, sampleRate }) => clock(frames ? frames / sampleRate 
 /** How a recording was found. */
 function foundText(one) {
   if (one.isRecorded) return session ? "is recorded now" : "is recorded now, in another tab";
-  if (one.code) return one.message;
-  if (one.frames === 0) return "no sound";
+  if (one.frames === 0) return one.message && one.code !== "ENDED" ? one.message : "no sound";
   return one.wasCutOff ? `was cut off: all ${lengthOf(one)} that were stored are here` : "whole";
 }
 
