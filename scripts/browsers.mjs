@@ -5,17 +5,22 @@ import os from "node:os";
 import path from "node:path";
 import {pathToFileURL} from "node:url";
 
+// How many milliseconds an answer may take. A browser was seen to give none, and a test has to end then, too.
+const PATIENCE = 300000;
+
 /** Requests with a number each, and the answers to them. */
 function conversation(write) {
   const pending = new Map();
   let id = 0;
   return {
     send: (method, params = {}, sessionId = undefined) => new Promise((resolve, reject) => {
-      pending.set(++id, {resolve, reject});
+      const timer = setTimeout(() => reject(new Error(`the browser doesn't answer ${method}`)), PATIENCE).unref();
+      pending.set(++id, {resolve, reject, timer});
       write(JSON.stringify({id, method, params, sessionId}));
     }),
     take({id, result, error, message}) {
-      const {resolve, reject} = pending.get(id);
+      const {resolve, reject, timer} = pending.get(id);
+      clearTimeout(timer);
       pending.delete(id);
       error ? reject(new Error(JSON.stringify(message ?? error))) : resolve(result);
     },
@@ -25,7 +30,7 @@ function conversation(write) {
 
 // An expression whose value comes as text from either browser.
 const asText = (expression) => `(async () => JSON.stringify(await (${expression}) ?? null))()`;
-export const exit = (child) => child.exitCode !== null || new Promise((resolve) => child.on("exit", resolve));
+const exit = (child) => child.exitCode !== null || new Promise((resolve) => child.on("exit", resolve));
 
 // Of the page: where the middle of an element is, after it is scrolled into the window.
 const middleOf = (selector) => `(() => {
@@ -36,13 +41,13 @@ const middleOf = (selector) => `(() => {
 })()`;
 
 /**
- * Chromium, by its protocol over a pipe, with a profile of its own: its first tab. Files are saved in a folder. A script
- * in `preload` is run in each tab before those of the page.
+ * Chromium, by its protocol over a pipe, with a profile of its own: its first tab. Files are saved in a folder. A
+ * script in `preload` is run in each tab before those of the page.
  */
 export async function chromium({profile, saved, flags = [], preload = "", detached = false}) {
   const all = [
-    "--headless=new", "--no-sandbox", "--disable-gpu", "--remote-debugging-pipe", `--user-data-dir=${profile}`, ...flags,
-    "about:blank"
+    "--headless=new", "--no-sandbox", "--disable-gpu", "--remote-debugging-pipe", `--user-data-dir=${profile}`,
+    ...flags, "about:blank"
   ];
   const child = spawn("chromium", all, {detached, stdio: ["ignore", "ignore", "ignore", "pipe", "pipe"]});
   for (const pipe of [child.stdio[3], child.stdio[4]]) pipe.on("error", () => {}); // It may be killed.

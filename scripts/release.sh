@@ -1,6 +1,6 @@
 #!/usr/bin/env bash
 # Makes what is downloaded, in a new folder, of what is committed: the Python wheel of this processor and the sdist, the
-# npm package, the crate, an archive for C, hound.html, and the sums of all. It makes each twice, and the sums have
+# npm package, the crate, an archive for C, both pages, and the sums of all. It makes each twice, and the sums have
 # to be the same. Then it installs each in a fresh place without network, and runs the programs of docs/BINDINGS.md. The
 # folder is there only if all of that works; else the status is 1, and the last line names what failed.
 #   scripts/release.sh FOLDER    (needs a C compiler, CMake, pkg-config, Python with venv, a recent cargo, npm; no kit)
@@ -65,7 +65,7 @@ make_c() { # OUT
 }
 make_page() { # OUT
     bindings/js/page/make.py --check
-    cp bindings/js/page/hound.html "$1"
+    cp bindings/js/page/{hound,record}.html "$1"
 }
 
 # Makes all in FOLDER/out, each from a copy of its own of what is committed.
@@ -171,7 +171,7 @@ END
 }
 
 step "bindings/lib is what its PROVED says" has_sums bindings/lib PROVED
-step "all packages, the archive for C and the page are made" make_all "$work/1"
+step "all packages, the archive for C and the pages are made" make_all "$work/1"
 step "they are made again" make_all "$work/2"
 step "both times they have the same sums" same_sums
 for language in c python rust js; do page "$language" > "$work/page.$language"; done

@@ -370,7 +370,8 @@ js_types() {
 js_packed() {
     mkdir "$work/js" && (cd bindings/js && npm pack --silent --pack-destination "$work") && git diff --exit-code \
         && [ -z "$(git status --short)" ] && cd "$work/js" \
-        && $offline npm install --silent --offline --no-audit --no-fund "$work"/hound_bindings-*.tgz && js_required
+        && $offline npm install --silent --offline --no-audit --no-fund "$work"/hound_bindings-*.tgz \
+        && cmp "$top/bindings/js/page/record.html" node_modules/hound_bindings/page/record.html && js_required
 }
 js_required() { # by programs without modules, by its command, and by the declarations that each resolution finds
     node -e 'require("hound_bindings").write(Int16Array.of(1), { sampleRate: 8000 }).then((file) => fs.writeFileSync("one.wav", file))' \

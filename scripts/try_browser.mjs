@@ -636,7 +636,7 @@ async function takePicture(browser) {
                    })
                  .flat();
   await browser.setScheme("light");
-  await browser.resize(800, 810, 1);
+  await browser.resize(800, 785, 1);
   await tryCase(browser,
     [
       "interview", wav([...data, 1, 2], {channels: 2, counted: 0, riff: 36}),

@@ -18,7 +18,7 @@ const USAGE = `usage: hound_bindings info [--details] FILE..                    
 With --to-end all that follows the header of the data is taken for samples.
 Where a whole file has another RIFF size or pad byte than the format asks for --details says so, --canonical writes it.
 A guess finds channels and bits, and may be wrong: listen. It finds no rate: ${USUAL_RATE} is assumed without --rate.
-The pages are served to this computer alone, at port ${USUAL_PORT} without --port. A browser keeps recordings by the port.
+The pages are served to this computer alone, at port ${USUAL_PORT} without --port: a browser keeps recordings by it.
 The status is 0 if all files could be read or repaired, 1 if one couldn't, and 2 if the arguments are wrong.`;
 
 const number = (n) => n.toLocaleString("en");

@@ -34,7 +34,7 @@ export async function serve(port = USUAL_PORT) {
     const host = `${ADDRESS}:${server.address().port}`, [status, headers, body] = answerTo(request, host, pages);
     const length = Buffer.byteLength(body);
     response.writeHead(status, { "Content-Type": "text/plain", ...HEADERS, ...headers, "Content-Length": length });
-    response.end(request.method === "HEAD" ? "" : body);
+    response.end(body); // Node sends none for HEAD.
   });
   await new Promise((resolve, reject) => server.once("error", reject).listen(port, ADDRESS, resolve));
   return server;

@@ -30,6 +30,8 @@ test("sound that is missing is found where it is missing", () => {
   }
   const twice = missingOf((i) => from(5, 0.5)(i) + from(20, 2)(i), blockAt(30));
   assert.deepEqual(twice.map(({ seconds }) => seconds.toFixed(1)), ["0.5", "2.0"]);
+  const late = missingOf((i) => from(5, 0.42)(i) + (i === blockAt(5) ? 0.25 : 0), blockAt(30));
+  assert.deepEqual(late.map(({ seconds }) => seconds.toFixed(2)), ["0.42"], "the first block after it is late, too");
   const atEnd = missingOf(from(5, 1), blockAt(5) + 1);
   assert.deepEqual(atEnd.map(({ seconds }) => seconds.toFixed(1)), ["1.0"]);
 });
@@ -72,7 +74,8 @@ class Memory {
 /** A recording over media that are listed; its blocks have the numbers of their frames. */
 async function recorded() {
   const media = [], states = [];
-  const recording = await Recording.begin(FORMAT, () => media[media.push(new Memory()) - 1], (state) => states.push(state));
+  const openNext = () => media[media.push(new Memory()) - 1];
+  const recording = await Recording.begin(FORMAT, openNext, (state) => states.push(state));
   let next = 0;
   const take = (state = "recording", frames = BLOCK) => {
     const samples = frames ? [Float32Array.from({ length: frames }, (_, i) => (next + i) / 2 ** 23)] : [];
@@ -85,6 +88,12 @@ async function recorded() {
 const held = async (media) => (await Promise.all(media.map(({ bytes }) => read(bytes)))).map((one) => [...one]);
 const numbers = (first, end) => Array.from({ length: end - first }, (_, i) => first + i);
 const pause = (milliseconds) => new Promise((resolve) => setTimeout(resolve, milliseconds));
+
+/** Waits until the last state is like that. */
+async function until(states, isSo) {
+  while (states.length === 0 || !isSo(states.at(-1))) await pause(5);
+}
+
 const full = () => { throw new DOMException("there is no room", "QuotaExceededError"); };
 
 test("all blocks are stored, also those that come during a checkpoint", async () => {
@@ -101,13 +110,29 @@ test("all blocks are stored, also those that come during a checkpoint", async ()
   assert.ok(!media[0].isOpen);
 });
 
+test("blocks that come during the last checkpoint of a pause are stored", async () => {
+  const { media, states, take, done, given } = await recorded();
+  let isWaiting = false;
+  media[0].wait = async () => {
+    isWaiting = true;
+    await pause(100);
+  };
+  take("paused");
+  while (!isWaiting) await pause(5);
+  take();
+  take("stopped", 7);
+  assert.deepEqual(await done, { frames: given(), lost: 0 });
+  assert.equal(states.at(-1).counted, given());
+  assert.deepEqual(await held(media), [numbers(0, given())]);
+});
+
 test("what is reported as counted is in a file", async () => {
   const { media, states, take, done } = await recorded();
   for (let i = 0; i < 70; i++) {
     take();
     await pause(20);
-    const [counted] = await held(media);
-    assert.ok(states.at(-1).counted <= counted.length, `${states.at(-1).counted} of ${counted.length}`);
+    const { counted: said } = states.at(-1), [counted] = await held(media);
+    assert.ok(said <= counted.length, `${said} of ${counted.length}`);
   }
   assert.ok(states.at(-1).counted > 0);
   take("stopped", 0);
@@ -116,14 +141,13 @@ test("what is reported as counted is in a file", async () => {
 
 test("on a full disk all waits in memory", async () => {
   const { media, states, take, done, given } = await recorded();
-  take();
-  await pause(20);
+  take("paused");
+  await until(states, ({ counted }) => counted === BLOCK);
   media[0].fail = full;
   take();
   take();
-  await pause(20);
-  assert.equal(states.at(-1).fault.name, "QuotaExceededError");
-  assert.equal(states.at(-1).frames, given());
+  await until(states, ({ fault }) => fault?.name === "QuotaExceededError");
+  assert.deepEqual([states.at(-1).frames, states.at(-1).counted], [given(), BLOCK]);
   take("stopped", 5);
   media[0].fail = () => {};
   assert.deepEqual(await done, { frames: given(), lost: 0 });
@@ -132,29 +156,29 @@ test("on a full disk all waits in memory", async () => {
 });
 
 test("a recording on a disk that stays full can be given up", async () => {
-  const { media, recording, take, done, given } = await recorded();
+  const { media, states, recording, take, done, given } = await recorded();
   take("paused");
-  await pause(20);
+  await until(states, ({ counted }) => counted === BLOCK);
+  const { length } = media[0].bytes;
+  take(); // It is written, and no checkpoint counts it.
+  while (media[0].bytes.length === length) await pause(5);
   media[0].fail = full;
-  take("recording");
+  take();
   take("stopped", 5);
-  await pause(20);
+  await until(states, ({ fault }) => fault);
   recording.giveUp();
-  const { frames, lost } = await done;
-  assert.deepEqual([frames, lost], [BLOCK, given() - BLOCK]);
+  assert.deepEqual(await done, { frames: BLOCK, lost: given() - BLOCK });
   assert.deepEqual((await held(media))[0].slice(0, BLOCK), numbers(0, BLOCK));
 });
 
 test("after a sync that failed it continues in another file, from the last checkpoint on", async () => {
-  const { media, take, done, given } = await recorded();
+  const { media, states, take, done, given } = await recorded();
   take("paused");
-  await pause(20);
-  take("recording");
-  await pause(20);
+  await until(states, ({ counted }) => counted === BLOCK);
   media[0].fail = (call) => { if (call === "flush") throw new Error("the disk has a fault"); };
   take("paused");
-  await pause(20);
-  take("recording");
+  await until(states, ({ fault }) => fault?.message === "the disk has a fault");
+  take();
   take("stopped", 5);
   assert.deepEqual(await done, { frames: given(), lost: 0 });
   const [first, second] = await held(media);
@@ -171,7 +195,8 @@ test("where it can't begin its medium is closed", async () => {
 
 test("too loud is what has several samples at the limit", async () => {
   const { recording, states, done } = await recorded();
-  for (const [samples, peak, isLoud] of [[[0.5, -0.75, 0], 0.75, false], [[1, 0, 0], 1, false], [[1, -1, 1], 1, true]]) {
+  const blocks = [[[0.5, -0.75, 0], 0.75, false], [[1, 0, 0], 1, false], [[1, -1, 1], 1, true]];
+  for (const [samples, peak, isLoud] of blocks) {
     recording.take({ samples: [Float32Array.from(samples)], time: 0, state: "recording" });
     assert.deepEqual([states.at(-1).peak, states.at(-1).isLoud], [peak, isLoud]);
   }

@@ -88,7 +88,8 @@ test("a port that is in use, and words that are wrong", async (t) => {
   assert.equal(text, `port ${port} is in use: if this command has it already, open http://127.0.0.1:${port}/record.html; ` +
     "else choose another one by --port\n");
   assert.equal((await run("serve", "--port", port)).status, 1);
-  for (const words of [["x"], ["--port"], ["--port", "0"], ["--port", "65536"], ["--port", "1", "x"], ["--rate", "1"]]) {
+  const wrong = [["x"], ["--port"], ["--port", "0"], ["--port", "65536"], ["--port", "1", "x"], ["--rate", "1"]];
+  for (const words of wrong) {
     const { status, text } = await run("serve", ...words);
     assert.equal(status, 2, words.join(" "));
     assert.match(text, /^usage: /);

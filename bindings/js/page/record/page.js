@@ -3,8 +3,9 @@ const element = (id) => document.getElementById(id);
 const [device, rate, form, recordButton, pauseButton, stopButton, giveUpButton, player, dialog] =
   ["device", "rate", "form", "record", "pause", "stop", "give-up", "player", "dialog"].map(element);
 
-// How long something is waited for that a browser may never say, in milliseconds.
-const PATIENCE = 2000;
+// How long something is waited for that a browser may never say, in milliseconds; and how many places are named where
+// sound is missing.
+const [PATIENCE, PLACES] = [2000, 5];
 const pause = (milliseconds, value) => new Promise((resolve) => setTimeout(resolve, milliseconds, value));
 const within = (promise, otherwise) => Promise.race([promise, pause(PATIENCE, otherwise)]);
 
@@ -32,7 +33,8 @@ function answer({ id, result, error }) {
 worker.onmessage = ({ data }) => data.state ? showState(data.state) : data.ended ? ended(data.ended) : answer(data);
 worker.onerror = ({ message }) => say(`Something failed: ${message}. Reload the page: what was stored is kept.`, "bad");
 
-// What is recorded now, and whether it is paused; nothing otherwise.
+// What is recorded now; nothing otherwise. The other tabs with this page know when the list changes.
+const tabs = new BroadcastChannel("recordings");
 let session;
 
 function clock(seconds) {
@@ -65,11 +67,19 @@ function showState({ frames, counted, missing, fault, peak, isLoud }) {
   element("stored").textContent = `Stored up to ${timeOf(counted)}`;
   element("stored").dataset.frames = counted;
   showLevel(peak, isLoud);
-  const notes = missing.map(({ frame, seconds }) => `${seconds.toFixed(2)} s are missing at ${timeOf(frame)}.`);
-  if (element("notes").children.length !== notes.length) {
-    element("notes").replaceChildren(...notes.map((textContent) => Object.assign(document.createElement("li"), { textContent })));
-  }
+  if (missing.length !== session.missing) showMissing(missing, timeOf);
   if (Boolean(fault) !== session.isFaulty) showFault(fault, timeOf(counted));
+}
+
+/** Names what is missing, and of many places only the last one. */
+function showMissing(missing, timeOf) {
+  session.missing = missing.length;
+  const each = missing.map(({ frame, seconds }) => `${seconds.toFixed(2)} s are missing at ${timeOf(frame)}.`);
+  const total = missing.reduce((sum, { seconds }) => sum + seconds, 0), last = missing.at(-1);
+  const texts = missing.length <= PLACES ? each :
+    [`${total.toFixed(2)} s are missing at ${missing.length} places, the last one at ${timeOf(last.frame)}.`];
+  const rows = texts.map((textContent) => Object.assign(document.createElement("li"), { textContent }));
+  element("notes").replaceChildren(...rows);
 }
 
 function showFault(fault, stored) {
@@ -131,7 +141,7 @@ async function start() {
   say("Allow the microphone where the browser asks.");
   element("notes").replaceChildren();
   show("starting");
-  const isKept = await within(navigator.storage.persist(), false);
+  navigator.storage.persist().then((isKept) => { element("kept").hidden = isKept; }); // It may never be settled.
   const stream = await openMicrophone(), [track] = stream.getAudioTracks(), settings = track.getSettings();
   let context;
   try {
@@ -140,17 +150,17 @@ async function start() {
     const node = await connect(stream, channels, context), { port1, port2 } = new MessageChannel();
     await ask("start", { format: { sampleRate, channels, bitsPerSample, isFloat: bitsPerSample === 32 } }, [port2]);
     node.port.postMessage(null, [port1]);
-    session = { context, node, stream, sampleRate, isFaulty: false };
+    session = { context, node, stream, sampleRate, isFaulty: false, missing: 0 };
   } catch (error) {
     track.stop();
     await context?.close();
     throw error;
   }
-  watch(track, session.context);
-  element("kept").hidden = isKept;
   await within(session.context.resume());
   proceed("recording"); // Once it runs, since the first quanta aren't one after the other.
   say("");
+  watch(track, session.context);
+  tabs.postMessage("changed");
   showDevices();
 }
 
@@ -164,23 +174,26 @@ function proceed(phase) {
 /** Looks after what may happen to the microphone. */
 function watch(track, context) {
   track.onended = () => {
-    if (session?.phase === "ending" || !session) return;
+    if (!session || session.phase === "ending") return;
     say("The microphone is gone, or may not be used any more. The recording has ended: all it gave is stored.", "bad");
     stop();
   };
   track.onmute = () => say("The microphone gives nothing: it may be muted.", "bad");
-  track.onunmute = () => say("");
+  const isBack = () => session?.isFaulty || say("");
+  track.onunmute = isBack;
   context.onstatechange = () => {
     if (session && session.phase !== "ending" && context.state !== "running") {
       say(`The browser has stopped the sound (${context.state}): what comes now is missing.`, "bad");
-      context.resume().then(() => say(""));
+      context.resume().then(isBack);
     }
   };
+  if (track.readyState === "ended") track.onended(); // It may have ended before.
+  else context.onstatechange();
 }
 
 /** Keeps the screen on while it records, so that the computer doesn't sleep; a browser ends that with each hiding. */
 async function holdScreen() {
-  if (session?.phase !== "recording" || document.hidden) return;
+  if (session?.phase !== "recording" || document.hidden || session.wakeLock?.released === false) return;
   session.wakeLock = await navigator.wakeLock?.request("screen").catch(() => undefined);
 }
 
@@ -204,6 +217,7 @@ async function ended({ frames, lost }) {
   else if (frames === 0) say("Nothing was recorded.");
   await showList().catch((error) => say(sentenceOn(error), "bad"));
   show("ready");
+  tabs.postMessage("changed");
 }
 
 /** Shows that nothing is recorded. */
@@ -232,8 +246,7 @@ const lengthOf = ({ frames, sampleRate }) => clock(frames ? frames / sampleRate 
 /** How a recording was found. */
 function foundText(one) {
   if (one.isRecorded) return session ? "is recorded now" : "is recorded now, in another tab";
-  if (one.code) return one.message;
-  if (one.frames === 0) return "no sound";
+  if (one.frames === 0) return one.message && one.code !== "ENDED" ? one.message : "no sound";
   return one.wasCutOff ? `was cut off: all ${lengthOf(one)} that were stored are here` : "whole";
 }
 
@@ -252,7 +265,8 @@ function rowOf(one) {
   const row = document.createElement("li"), title = titleOf(one), buttons = document.createElement("div");
   const [name, facts] = ["strong", "span"].map((kind) => document.createElement(kind));
   name.textContent = title;
-  facts.textContent = [one.frames ? lengthOf(one) : "", foundText(one), one.frames ? formatText(one) : ""].filter(Boolean).join(" \u00b7 ");
+  const texts = one.frames ? [lengthOf(one), foundText(one), formatText(one)] : [foundText(one)];
+  facts.textContent = texts.join(" \u00b7 ");
   facts.className = one.wasCutOff ? "cut" : "soft";
   if (one.frames) buttons.append(button("Play", title, () => play(one, row)), button("Save", title, () => save(one)));
   if (!one.isRecorded) buttons.append(button("Delete", title, () => remove(one), "second danger"));
@@ -293,6 +307,7 @@ async function remove(one) {
   if (dialog.returnValue !== "delete") return;
   await ask("remove", one);
   await showList();
+  tabs.postMessage("changed");
 }
 
 /** Names the recordings that were cut off since the page was open the last time, and says so. */
@@ -319,8 +334,8 @@ function lack() {
   if (!globalThis.isSecureContext || !navigator.mediaDevices || !navigator.locks) {
     return "Browsers lend a microphone only to a page from https or from this computer.";
   }
-  if (!navigator.storage?.getDirectory || !globalThis.AudioWorkletNode) return "This browser is too old to record here.";
-  return undefined;
+  const isOld = !navigator.storage?.getDirectory || !globalThis.AudioWorkletNode;
+  return isOld ? "This browser is too old to record here." : undefined;
 }
 
 const SERVE = "To record, this page has to be served: run npx hound_bindings serve, or hound-wav serve, and open the " +
@@ -347,6 +362,7 @@ async function main() {
     await look();
     await showDevices();
     show("ready");
+    tabs.onmessage = () => player.paused && showList();
   } catch (error) {
     say(error.name === "SecurityError" ? `This browser stores nothing for a page that is opened from the disk. ${SERVE}` : error.message, "bad");
   }

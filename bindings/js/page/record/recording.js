@@ -27,8 +27,6 @@ export class Recording {
   #isEnding = false;
   #isGivenUp = false;
   #wake = () => {};
-  #giveUp;
-  #givenUp = new Promise((resolve) => { this.#giveUp = resolve; });
 
   constructor(format, openNext, tell) {
     [this.#format, this.#openNext, this.#tell] = [format, openNext, tell];
@@ -70,7 +68,6 @@ export class Recording {
   /** Ends without what can't be stored. */
   giveUp() {
     this.#isGivenUp = true;
-    this.#giveUp();
   }
 
   /** Writes each block once it is there, until the recording ends. Returns how many frames are stored, and how many
@@ -124,9 +121,9 @@ export class Recording {
     this.#written = this.#before = this.#counted;
   }
 
-  /** Waits for the next block; after a fault for a while, or until the recording is given up. */
+  /** Waits for the next block; after a fault for a while. */
   #more() {
-    if (this.#fault) return Promise.race([pause(RETRY), this.#givenUp]);
+    if (this.#fault) return pause(RETRY);
     return new Promise((resolve) => { this.#wake = resolve; });
   }
 

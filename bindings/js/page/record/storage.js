@@ -3,7 +3,7 @@ import { findDamage, repair } from "../../hound.js";
 
 const FOLDER = "recordings";
 // Chromium syncs what a file has, and never its name: that is on the disk only when the system has written it, half a
-// minute later. After a loss of power before that, the file would have no name, and the next one would be written over
+// minute later. After a power failure before that, the file would have no name, and the next one would be written over
 // it. So a recording begins in an empty file that was there before, and so many of these are kept.
 const SPARES = 2, SPARE = /^spare-\d+\.wav$/;
 

@@ -1,5 +1,5 @@
-// On the audio thread: joins its quanta to blocks, and sends each to the worker with the time by the wall clock. Nothing
-// here waits for the worker: while that is busy, blocks wait in the queue of the port, and none is dropped.
+// On the audio thread: joins its quanta to blocks, and sends each to the worker with the time by the wall clock.
+// Nothing here waits for the worker: while that is busy, blocks wait in the queue of the port, and none is dropped.
 registerProcessor("collector", class extends AudioWorkletProcessor {
   #channels;
   #length;
