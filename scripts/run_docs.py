@@ -314,7 +314,7 @@ def main():
             print("docs: passed over, since unshare isn't allowed here: that no block needs a network")
         reader.prepare({block.language for block in every if not block.skipped})
         run = [Section(reader, blocks, number) for number, blocks in enumerate(sections.values())]
-        with concurrent.futures.ThreadPoolExecutor(2) as pool:
+        with concurrent.futures.ThreadPoolExecutor(3) as pool:
             for results in pool.map(lambda section: list(section.run_all()), run):
                 for block, is_passed, said in results:
                     counts[is_passed] += 1
