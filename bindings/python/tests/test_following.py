@@ -435,7 +435,8 @@ class Iterations(Followed):
             writer.write(SAMPLES)
             writer.flush()
             program = (
-                "import sys, hound_bindings as hound\n"
+                "import signal, sys, hound_bindings as hound\n"
+                "signal.signal(signal.SIGINT, signal.default_int_handler)  # nohup and & ignore it\n"
                 "for block in hound.follow(sys.argv[1], poll=5):\n"
                 "    print(len(block), flush=True)"
             )
