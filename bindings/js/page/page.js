@@ -1,5 +1,5 @@
 // The page: it looks at files that are dropped or chosen, draws one, plays it, and saves the repaired ones.
-import { chunksAtEnd } from "../guess.js";
+import { SEARCHED_LENGTH, chunksAtEnd } from "../guess.js";
 import { HoundError, guess, guessStart, info, read, repair, write } from "../hound.js";
 
 const element = (id) => document.getElementById(id);
@@ -40,7 +40,7 @@ const RATES = [8000, 11025, 16000, 22050, 32000, 44100, 48000, 88200, 96000, 192
 const USUAL_RATE = 48000;
 // How many samples are read at once to be drawn, how many channels are drawn at most, how many frames are shown at
 // least, how many samples a copy has at most, and in how many bytes at the end of a file chunks are looked for.
-const AT_ONCE = 1 << 20, LANES = 32, LEAST = 64, COPIED = 1 << 28, END_LENGTH = 4096;
+const AT_ONCE = 1 << 20, LANES = 32, LEAST = 64, COPIED = 1 << 28;
 
 const number = (n) => n.toLocaleString("en");
 const counted = (n, what) => `${number(n)} ${what}${n === 1 ? "" : "s"}`;
@@ -349,7 +349,7 @@ async function judged(file, toEnd) {
 
 /** The chunks in which a file seems to end that counts them as sound. */
 async function chunksOf(file, { dataStart }) {
-  const end = file.slice(Math.max(dataStart, file.size - END_LENGTH));
+  const end = file.slice(Math.max(dataStart, file.size - SEARCHED_LENGTH));
   return chunksAtEnd(new Uint8Array(await end.arrayBuffer()));
 }
 
