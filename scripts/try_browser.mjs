@@ -64,11 +64,21 @@ const LISTEN_TO_EACH =
   "\nChoose each in the list, and listen to its end: silence, noise, a click or older sound may be there.";
 const missing = (what) => (name) =>
   `The ${what.replace(" ", ` of ${name}.wav `)}. Choose what was recorded, listen, save.`;
+/** How long the sound is that came back, whose time follows the frames, for who doesn't count frames. */
+const cameBack = (frames) => {
+  const time = frames.match(/\((?:(\d+):)?(\d+):(\d+)\.(\d)/);
+  if (!time) return `${frames} came back`;
+  const [hours, minutes, seconds, tenths] = time.slice(1).map((digits) => Number(digits ?? 0));
+  const rounded = (seconds + Number(frames.match(/\.(\d+)\)/)[1]) / 1000).toFixed(1);
+  const length = hours ? `${hours} h ${minutes} min` : minutes ? `${minutes} min ${seconds} s` :
+    seconds + tenths === 0 ? "Less than 0.1 seconds" : `${rounded} seconds`;
+  return `${length} of sound came back. These are ${frames}`;
+};
 const comes = (frames, counted = "none", more = "") =>
-  `${frames} come back, of which its header counted ${counted}.${more}`;
+  `${cameBack(frames)}, of which its header counted ${counted}.${more}`;
 const cut = (...rest) => `The recording was cut off. ${comes(...rest)}${LISTEN}`;
 const tooMany = (frames, counted, more = "") =>
-  `The recording was cut off. ${frames} come back; its header counted ${counted}.${more}${LISTEN}`;
+  `The recording was cut off. ${cameBack(frames)}; its header counted ${counted}.${more}${LISTEN}`;
 const toEnd = (...rest) => `All bytes up to the end are taken for sound. ${comes(...rest)}${LISTEN}`;
 const uncounted = (counts, bytes, what = "the rest of the recording") => `The header counts ${counts}, but ${bytes} bytes follow. They may be ${what}: repair the file to its end, and listen.`;
 const LIST = [...text("LIST"), ...u32(4), ...text("INFO")], TAG = [...text("TAG"), ...Array(125).fill(32)],

@@ -80,6 +80,14 @@ const lengthOfTime = ({ frames, sampleRate }) => sampleRate ? frames / sampleRat
 const framesOf = (found) =>
   counted(found.frames, "frame") + (found.sampleRate ? ` (${time(lengthOfTime(found))})` : "");
 
+/** How long the sound is, for who doesn't count frames. */
+function lengthOf(found) {
+  const seconds = lengthOfTime(found), minutes = Math.floor(seconds / 60), hours = Math.floor(minutes / 60);
+  if (hours) return `${hours} h ${minutes % 60} min`;
+  if (minutes) return `${minutes} min ${Math.floor(seconds % 60)} s`;
+  return seconds < 0.1 ? "Less than 0.1 seconds" : `${seconds.toFixed(1)} seconds`;
+}
+
 /** How many bytes follow the sound that the header counts, and whether they may be sound, too: they are more. */
 function claims(file, { dataStart, dataLength }) {
   const rest = file.size - dataStart - dataLength;
@@ -108,7 +116,10 @@ function verdict(found, { rest, mayBeSound }, toEnd, chunks) {
   const cause = toEnd ? "All bytes up to the end are taken for sound." : "The recording was cut off.";
   const ofThese = before > frames ? `; its header counted ${number(before)}` :
     `, of which its header counted ${before ? number(before) : "none"}`;
-  const back = `${framesOf(found)} come${frames === 1 ? "s" : ""} back${ofThese}.${left}`;
+  const areThese = frames === 1 ? "This is" : "These are";
+  const all = found.sampleRate ? `${lengthOf(found)} of sound came back. ${areThese} ${framesOf(found)}` :
+    `${framesOf(found)} came back`;
+  const back = `${all}${ofThese}.${left}`;
   const says = chunks ? ` ${chunksText(chunks)}` : "", press = 'press "End it where the player is".';
   return [`${cause} ${back}${says}\n` +
     `Listen to its end: if ${AFTER_IT} is there, stop the player before that, and ${press}`, "cut"];
