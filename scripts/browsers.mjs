@@ -44,12 +44,13 @@ const middleOf = (selector) => `(() => {
  * Chromium, by its protocol over a pipe, with a profile of its own: its first tab. Files are saved in a folder. A
  * script in `preload` is run in each tab before those of the page.
  */
-export async function chromium({profile, saved, flags = [], preload = "", detached = false}) {
+export async function chromium({profile, saved, flags = [], preload = "", detached = false, onStart = () => {}}) {
   const all = [
     "--headless=new", "--no-sandbox", "--disable-gpu", "--remote-debugging-pipe", `--user-data-dir=${profile}`,
     ...flags, "about:blank"
   ];
   const child = spawn("chromium", all, {detached, stdio: ["ignore", "ignore", "ignore", "pipe", "pipe"]});
+  onStart(child);
   for (const pipe of [child.stdio[3], child.stdio[4]]) pipe.on("error", () => {}); // It may be killed.
   const {send, take, end} = conversation((message) => child.stdio[3].write(message + "\0")), events = [];
   const browser = {onLine: () => {}}; // It gets what the pages write to their consoles.
@@ -180,7 +181,8 @@ const FIREFOX = {
  * Firefox, by WebDriver BiDi, with a profile of its own, on a display where files are dragged. Files are saved in a
  * folder. A function in `preload` is called in each tab before the scripts of the page.
  */
-export async function firefox({profile, saved, settings = {}, preload = "", hasDisplay = true, detached = false}) {
+export async function firefox(
+  {profile, saved, settings = {}, preload = "", hasDisplay = true, detached = false, onStart = () => {}}) {
   const events = [], all = {...FIREFOX, "browser.download.dir": saved, ...settings};
   const browser = {onLine: () => {}}; // It gets what the pages write to their consoles.
   const hear = (event) => {
@@ -199,6 +201,7 @@ export async function firefox({profile, saved, settings = {}, preload = "", hasD
   const child = spawn(
     "firefox-esr", flags,
     {detached, stdio: ["ignore", "ignore", "pipe"], env: {...(screen ? screen.env : process.env), HOME: profile}});
+  onStart(child);
   const url = await new Promise((resolve, reject) => {
     let all = "";
     child.stderr.on("data", (part) => {

@@ -85,7 +85,7 @@ function kill(id) {
   } catch {} // It has ended.
 }
 
-const started = new Set();
+const started = new Set(), onStart = (child) => started.add(child);
 
 /** Ends all processes of a browser that are left. */
 async function killAll({child}) {
@@ -106,7 +106,7 @@ const BROWSERS = [
     async start({profile, saved}, edits, isReal) {
       const asked = ["--use-fake-device-for-media-stream", ...(isReal ? [] : ["--use-fake-ui-for-media-stream"])];
       const flags = ["--no-first-run", "--disable-extensions", "--autoplay-policy=no-user-gesture-required", ...asked];
-      return chromium({profile, saved, flags, preload: isReal ? "" : preparation(edits), detached: true});
+      return chromium({profile, saved, flags, onStart, preload: isReal ? "" : preparation(edits), detached: true});
     },
     /** The processes that have the tabs. */
     async tabs({send}) {
@@ -131,7 +131,7 @@ const BROWSERS = [
         "app.update.disabledForTesting": true,
       };
       const preload = `() => ${preparation(edits)}`;
-      return firefox({profile, saved, settings, preload, hasDisplay: false, detached: true});
+      return firefox({profile, saved, settings, preload, onStart, hasDisplay: false, detached: true});
     },
     async tabs({child}) {
       const hasWorker = (id) => threads(id).some((name) => name.startsWith("DOM Worker"));
@@ -162,7 +162,6 @@ async function open(kind, profile, edits = [], isReal = false) {
   const saved = path.join(path.dirname(profile), "saved");
   for (let attempts = 3;; attempts--) {
     const starting = kind.start({profile, saved}, edits, isReal);
-    starting.then(({child}) => started.add(child), () => {});
     const browser = await Promise.race([starting, pause(60000)]);
     const onLine = (line) => hear(browser, line);
     if (browser) return Object.assign(browser, {kind, profile, saved, stored: 0, onLine});
