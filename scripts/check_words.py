@@ -67,8 +67,6 @@ EXCEPTIONS = [
     ("docs/", "waits for it"),  # of a call that waits for a disk
     ("docs/", "waits for the disk"),
     ("docs/USING.md", "is what `main`"),
-    ("bindings/hound/README.md", "## Recordings that survive a loss of power"),  # to which the sources link
-    ("bindings/hound/README.md", "## Recordings in parts"),
     ("", "floats of 64 bits"),  # what a file is called in errors, of all packages alike
     ("", "integers of 64 bits"),
 ]
@@ -78,11 +76,12 @@ with open(os.path.join(TOP, "crates.txt")) as crates:
     CRATES = re.findall(r"^(\w+)[^:#\n]*:", crates.read(), flags=re.M)
 
 
-# What is read for the terms alone: the packages' pages, and files of which most lines are comments or texts. hound.js,
-# its declarations and the Rust sources aren't among them yet.
+# What is read for the terms alone: the packages' pages, and files of which most lines are comments or texts. The pages
+# in bindings/js/page are for people who say sound.
 PACKAGES = [
     "CHANGELOG.md", "scripts/README.md", "bindings/*/*.md", "bindings/c/[!_]*.h", "bindings/c/[bcfr]*.c",
-    "bindings/python/hound_bindings/*.py", "bindings/js/command.js", "bindings/js/guess.js",
+    "bindings/python/hound_bindings/*.py", "bindings/js/*.js", "bindings/js/hound.d.cts", "bindings/hound/src/*.rs",
+    "bindings/hound/examples/*.rs",
 ]  # fmt: skip
 
 

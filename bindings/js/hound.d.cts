@@ -236,7 +236,7 @@ export interface Medium {
 
 /**
  * Repairs a file at a path, in Node, or a medium in place, and returns how it was found. Each step is synced, so that
- * a file can be repaired again after an error, a kill or a loss of power. Nothing is deleted: bytes of a torn frame
+ * a file can be repaired again after an error, a crash or a power failure. Nothing is deleted: bytes of a torn frame
  * stay. Node has no locks: no other program may write it meanwhile.
  */
 export function repairFile(file: string | URL | Medium, options?: Repairing): Promise<Damage>;
@@ -248,10 +248,10 @@ export function repairFile(file: string | URL | Medium, options?: Repairing): Pr
 export function findDamageInFile(file: string | URL | Medium): Promise<Damage>;
 
 /**
- * Records a new file at a path, in Node, in the place of one that is there; with `exclusive` that is an error. With
- * `durable` the samples of a checkpoint survive a loss of power, without it a kill. Node has no locks.
+ * Records a new file at a path, in Node, instead of one that is there; with `exclusive` that is an error. With
+ * `durable` the samples of a checkpoint survive a power failure, without it a crash of the program. Node has no locks.
  *
- * With `split` a file has at most so many frames (`Infinity`: as many as have room), and a block that has no room is
+ * With `split` a file has at most so many frames (`Infinity`: as many as fit), and a block that doesn't fit is
  * written to a next one, whole: after take.wav to take-002.wav, take-003.wav and so on, each of which mustn't be there.
  * That the second one can be made is looked at before anything is recorded.
  * The next file is made and begun before the one before it is ended. Where that fails `write` is the error, and the
@@ -259,7 +259,7 @@ export function findDamageInFile(file: string | URL | Medium): Promise<Damage>;
  * the failed one are in their files, and the error of such a block has their frames in `framesWritten`: write only the
  * others again.
  *
- * Each file has the `chunks` before its samples, such as `[["bext", bytes]]`. A kill leaves nothing of a new file, a
+ * Each file has the `chunks` before its samples, such as `[["bext", bytes]]`. A crash leaves nothing of a new file, a
  * part of its header, or a file of no samples, and `continueFile` with the same chunks continues each of these.
  */
 export function record(
@@ -280,7 +280,7 @@ export function record(
 ): Promise<Recorder>;
 
 export interface Recording {
-  /** Whether the samples of a checkpoint survive a power failure, and not a kill alone. */
+  /** Whether the samples of a checkpoint survive a power failure, and not a crash alone. */
   durable?: boolean;
   /**
    * After how many milliseconds a write makes a checkpoint of all that was written before it. After one that took more
@@ -305,8 +305,8 @@ export function appendTo(file: string | URL | Medium, options?: Recording): Prom
 
 /**
  * Goes on with the recording at a path, in Node, or in a medium: for a program that has to start by itself again after
- * a kill or a loss of power. A recording that was cut off continues after all whole frames that it holds. A new one
- * begins where no file is, or one that holds a part of such a header and nothing else, as a kill leaves it. Where the
+ * a crash or a power failure. A recording that was cut off continues after all whole frames that it holds. A new one
+ * begins where no file is, or one that holds a part of such a header and nothing else, as a crash leaves it. Where the
  * header counts more than the file holds, or a part of a frame, the file is repaired first. A file of another format is
  * an error ("OTHER_FORMAT"), and so are chunks or a tag after the data; then it stays as it is. A new file has the
  * `chunks` before its samples; those of one that is continued stay as they are.
@@ -334,7 +334,7 @@ export interface Follow {
    * file is taken for recorded where another program has it locked, which only Linux says, and of files at paths.
    */
   isRecorded?: () => boolean | Promise<boolean>;
-  /** Whether it continues in the next file of a recording in parts, as take-002.wav after take.wav. */
+  /** Whether it continues in the next file of a split recording, as take-002.wav after take.wav. */
   parts?: boolean;
 }
 
@@ -381,7 +381,7 @@ export function follow(
  */
 export interface Recorder {
   readonly spec: Readonly<Spec>;
-  /** How many frames have room after those that are written, for a program that continues in another file; with
+  /** How many frames still fit after those that are written, for a program that continues in another file; with
       `split`, how many this file still takes. */
   readonly framesLeft: number;
   /** The number of the next frame, of all files with `split`: so many are written. */

@@ -482,7 +482,7 @@ const arrayAt = (type, place, count) => new type.array(shared.bytes.buffer, shar
 // The types whose containers are numbers of this machine already: what decodes and encodes these copies them only.
 const OWN = [TYPES.int16, TYPES.int32, TYPES.float32];
 
-/** The numbers in these containers, if this machine has them as they are, and a type has room for them. */
+/** The numbers in these containers, if this machine has them as they are, and they fit in a type. */
 function numbersIn(bytes, { bitsPerSample, isFloat }, type) {
   const own = OWN.find((one) => one.bits === bitsPerSample && one.isFloat === isFloat);
   if (!own || own.bits > type.bits || isFloat !== type.isFloat) return undefined;
@@ -1114,7 +1114,7 @@ class Recorder {
     return recorder;
   }
 
-  /** Lets a recording continue in a next file, which `begin` begins, after so many frames, or as many as have room. */
+  /** Lets a recording continue in a next file, which `begin` begins, after so many frames, or as many as fit. */
   static split(recorder, frames, place, begin) {
     recorder.#most = Math.min(frames, recorder.framesLeft);
     recorder.#places.push(place);
@@ -1131,7 +1131,7 @@ class Recorder {
     return this.spec.channels * this.spec.bytesPerSample;
   }
 
-  /** How many frames have room after those that are written: with `split`, how many this file still takes. */
+  /** How many frames still fit after those that are written: with `split`, how many this file still takes. */
   get framesLeft() {
     const left = Number(this.#machine.call("recorder_frames_left", shared.at(MACHINE)));
     return this.#most === undefined ? left : Math.min(left, Math.max(this.#most - this.#held, 0));
@@ -1168,7 +1168,7 @@ class Recorder {
     if (data.length <= BLOCK_BYTES) this.#room = new Uint8Array(data.buffer);
   }
 
-  /** Writes a block, in next files what has no room in this one. A checkpoint that is due comes first, so that the
+  /** Writes a block, in next files what doesn't fit in this one. A checkpoint that is due comes first, so that the
       block is in no file where that is an error. */
   *#writing(data, count) {
     if (performance.now() >= this.#due) yield this.#checkpoint();
@@ -1177,7 +1177,7 @@ class Recorder {
     yield isHere ? this.#perform("recorder_write", data, count) : this.#writeInFiles(data);
   }
 
-  /** Writes whole frames, in a next file where they have no room in this one. A block that is larger than a file may be
+  /** Writes whole frames, in a next file where they don't fit in this one. A block that is larger than a file may be
       is written as several; then an error says how many of its frames are in their files. */
   async #writeInFiles(data) {
     const before = this.tell();
@@ -1390,7 +1390,7 @@ function mediaFrom(next, format, how) {
 /**
  * Records to a file at a path, in Node, or to a medium. What is there is emptied; with `exclusive` it is an error.
  *
- * With `split` a file has at most so many frames, and never more than have room. The recording of take.wav continues in
+ * With `split` a file has at most so many frames, and never more than fit. The recording of take.wav continues in
  * take-002.wav, take-003.wav and so on, each of which mustn't be there: of the second one that is looked at first, of
  * each before the file before it is ended. They stay in one folder, wherever the program changes to. Media are those
  * that `next` gives.
@@ -1446,7 +1446,7 @@ export async function appendTo(place, options = {}) {
 }
 
 /**
- * Goes on with the recording at a path, in Node, or in a medium, whatever a kill or a loss of power has left of it:
+ * Goes on with the recording at a path, in Node, or in a medium, whatever a crash or a power failure has left of it:
  * after all whole frames of one that was cut off, or from the start where no file is, or one that holds less than the
  * header of a new one and nothing else. Where the header counts more than the file holds, or a part of a frame, the
  * file is repaired first, because a recorder never cuts off what is counted. A file of another spec is an error, and

@@ -1,4 +1,4 @@
-//! Writes the samples of a recording to standard output while another program makes it, as integers of 16 bits,
+//! Writes the samples of a recording to standard output while another program makes it, as 16-bit integers,
 //! little-endian. It ends once nothing new was counted for so many milliseconds and no program has the file locked,
 //! after one more look: only in this order it writes what the last checkpoint counts, too.
 //!

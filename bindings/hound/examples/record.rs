@@ -2,7 +2,7 @@
 //! so many samples, rounded up to whole frames, a checkpoint makes the file's header count all, and prints how many
 //! these are. After an error the program continues, and prints how many samples were lost. With `append` it repairs the
 //! file, where a recording was cut off, and continues after all that it holds; without it an existing file is emptied.
-//! With `durable` the checkpoints survive a loss of power.
+//! With `durable` the checkpoints survive a power failure.
 //!
 //!     arecord -t raw -f S16_LE -c 2 -r 44100 | record FILE 44100 2 16 SAMPLES [append] [durable]
 use hound::blocks::WriteSamples;

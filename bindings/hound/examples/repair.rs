@@ -1,6 +1,6 @@
 //! Repairs a recording that was cut off, in place, and prints how the file was found. With `to_end` what looks like
 //! chunks after the data is taken for samples, too. Copy the file first if it is the only one: some recorders leave
-//! older sound at the end, which then counts.
+//! older audio at the end, which then counts.
 //!
 //!     repair FILE [to_end]
 use std::io::{self, Write};

@@ -83,7 +83,7 @@ impl<W: Write + Seek> WriteSamples for WavWriter<W> {
     }
 }
 
-/// The types of floats that are scaled: `f32`, and `f64`, which holds integers of 32 bits, too.
+/// The types of floats that are scaled: `f32`, and `f64`, which holds 32-bit integers, too.
 pub trait Scaled: Copy + Default + From<f32> + Into<f64> + sealed::Sealed {
     #[doc(hidden)]
     fn __hound_of(sample: i32, bits: u16) -> Self;

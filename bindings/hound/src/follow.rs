@@ -31,7 +31,7 @@ impl<R: Read + Seek> Follower<R> {
         self.machine.recording().map(|recording| recording.spec_ex)
     }
 
-    /// Reads the next samples into the front of a slice, which has room for a frame, and returns how many: whole frames
+    /// Reads the next samples into the front of a slice, in which a frame fits, and returns how many: whole frames
     /// that are counted, and none where nothing new is. It doesn't wait.
     pub fn read_samples<S: Sample>(&mut self, samples: &mut [S]) -> Result<usize> {
         let left = self.look()?;

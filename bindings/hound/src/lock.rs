@@ -26,7 +26,7 @@ fn is_at(file: &fs::File, filename: &path::Path) -> io::Result<bool> {
 }
 
 /// Locks an open file until it is closed, in ten attempts 2 ms apart (own): where it is locked already, the error is
-/// `WouldBlock`. See the [page of the crate](crate#recordings-that-survive-a-loss-of-power).
+/// `WouldBlock`. See the [page of the crate](crate#recordings-that-survive-a-power-failure).
 pub fn lock(file: &fs::File) -> io::Result<()> {
     // A program that follows a recording locks it for a moment, to see whether it is still recorded.
     for attempts_left in (0..10).rev() {
@@ -66,7 +66,7 @@ fn is_locked_by_another(file: &fs::File) -> bool {
     const IS_LOCKED: i32 = 33;
     let mut place = [0; 4];
     place[std::mem::size_of::<usize>() / 4] = 1 << 62; // After two words, and before another one.
-    // SAFETY: the file is open, and without waiting nothing of the call is kept.
+                                                       // SAFETY: the file is open, and without waiting nothing of the call is kept.
     let result = unsafe { LockFileEx(file.as_raw_handle(), EXCLUSIVE_WITHOUT_WAITING, 0, 1, 0, &mut place) };
     result == 0 && io::Error::last_os_error().raw_os_error() == Some(IS_LOCKED)
 }

@@ -7,7 +7,7 @@ use std::io::{self, BufReader, ErrorKind, Read, Seek, SeekFrom, Write};
 use std::panic::{self, AssertUnwindSafe};
 use std::sync::{Mutex, PoisonError};
 
-/// A reader. Where it claims more bytes than it had room for, it has given as many as that. A read of a repair that was
+/// A reader. Where it claims more bytes than fit, it has given as many as fit. A read of a repair that was
 /// interrupted is repeated; others aren't, as by hound.
 pub struct Input<R>(pub(crate) R);
 

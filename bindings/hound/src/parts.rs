@@ -8,7 +8,7 @@ use std::{env, fs, io, mem};
 type Writer = WavWriter<io::BufWriter<fs::File>>;
 type Begin = fn(&Path, WavSpec) -> Result<Writer>;
 
-/// Writes a recording in parts, by blocks of whole frames. The [page of the crate](crate#recordings-in-parts) says when
+/// Writes a split recording, by blocks of whole frames. The [page of the crate](crate#split-recordings) says when
 /// a next file is begun, and what an error leaves.
 pub struct PartsWriter {
     writer: Writer,
@@ -29,7 +29,7 @@ impl PartsWriter {
         PartsWriter::over(filename.as_ref(), spec, split, |path, spec| WavWriter::create(path, spec))
     }
 
-    /// The same of files that survive a loss of power, as [`WavWriter::create_durable`] makes them.
+    /// The same of files that survive a power failure, as [`WavWriter::create_durable`] makes them.
     pub fn create_durable<P: AsRef<Path>>(filename: P, spec: WavSpec, split: u32) -> Result<PartsWriter> {
         PartsWriter::over(filename.as_ref(), spec, split, |path, spec| WavWriter::create_durable(path, spec))
     }
@@ -63,7 +63,7 @@ impl PartsWriter {
         Ok(())
     }
 
-    // How many frames have room in the file: the recorder, which is proved, knows what its sizes count.
+    // How many frames still fit in the file: the recorder, which is proved, knows what its sizes count.
     fn frames_left(&self) -> Result<usize> {
         let spec_ex = WavSpecEx::from(self.writer.spec());
         let data_length = self.writer.len() * u32::from(spec_ex.bytes_per_sample);

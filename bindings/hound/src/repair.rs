@@ -23,7 +23,7 @@ pub struct Repair {
 
 /// Gives a file whose recording was cut off the sizes of the whole frames that it holds, and a pad byte where one is
 /// missing (own), unless chunks or a tag follow the data. What it does to a file, and what an error leaves, is on the
-/// [page of the crate](crate#recordings-that-survive-a-loss-of-power).
+/// [page of the crate](crate#recordings-that-survive-a-power-failure).
 pub fn repair_file<P: AsRef<path::Path>>(filename: P) -> Result<Repair> {
     repair_by(Task::Repair, filename.as_ref())
 }

@@ -170,7 +170,7 @@ sample!(f32, 4, f32::to_bits, f32::from_bits, |_| panic!("a float has no 16 bits
 #[derive(Clone, Copy)]
 struct Container(u64);
 
-// One container, or the sample is rejected. There is room for a byte more.
+// One container, or the sample is rejected. A byte more fits in its buffer.
 #[inline]
 fn container_of<S: Sample>(sample: S, spec_ex: WavSpecEx) -> Result<Container> {
     let (mut bytes, width) = ([0; 8], usize::from(spec_ex.bytes_per_sample));

@@ -11,7 +11,7 @@ pub use crate::proved::slices::{
 pub use crate::proved::walk::find_samples;
 
 /// What a file is that isn't read, by its first bytes, of which a few thousand will do: as "Microsoft ADPCM", for a
-/// sentence beside its error. None for samples that are read, and for what isn't known.
+/// sentence next to its error. None for samples that are read, and for what isn't known.
 pub fn kind(file: &[u8]) -> Option<&'static str> {
     let kind = file_kind(file);
     KINDS.iter().find(|(number, _)| *number == kind).map(|(_, name)| *name)

@@ -74,22 +74,22 @@ impl<W: Write + Seek> WavWriter<W> {
     ///
     /// One that has more bits than the file is `TooWide`, and a float for integers of fewer than 32 bits is
     /// `Unsupported`. Nothing is converted: an integer for floats is taken as their bits, as by hound, and so is a
-    /// float for integers of 32 bits.
+    /// float for 32-bit integers.
     #[inline(always)]
     pub fn write_sample<S: Sample>(&mut self, sample: S) -> Result<()> {
         sample.__hound_write(&mut self.proved)
     }
 
-    /// A writer of a batch of so many integers of 16 bits, without a result for each.
+    /// A writer of a batch of so many 16-bit integers, without a result for each.
     ///
     /// # Panics
     ///
-    /// If the samples of the file aren't integers of 16 bits.
+    /// If the samples of the file aren't 16-bit integers.
     #[inline]
     pub fn get_i16_writer<'s>(&'s mut self, num_samples: u32) -> SampleWriter16<'s, W> {
         let (spec, count) = (self.spec(), num_samples as usize);
         let is_of_16_bits = spec.sample_format == SampleFormat::Int && spec.bits_per_sample == 16;
-        assert!(is_of_16_bits, "a batch is of integers of 16 bits");
+        assert!(is_of_16_bits, "a batch is of 16-bit integers");
         if self.batch.len() < count {
             self.batch.resize(count, 0);
         }
@@ -116,7 +116,7 @@ impl<W: Write + Seek> WavWriter<W> {
         result
     }
 
-    // Where the medium has no room for the buffered samples, those that are written are published without them.
+    // Where the buffered samples don't fit on the medium, those that are written are published without them.
     fn publish(&mut self, continues: bool) -> Result<()> {
         let output = &mut self.proved.output;
         let result = output.publish_all(continues);
@@ -154,7 +154,7 @@ impl<W: Write + Seek> Drop for WavWriter<W> {
 impl<W: Read + Write + Seek> WavWriter<W> {
     /// Appends to a file, of which the writer has to be at the beginning: the next sample follows those
     /// that its header counts. What follows these is overwritten, so
-    /// [repair it first](crate#recordings-that-survive-a-loss-of-power), always. A fact chunk stays as it is. A file
+    /// [repair it first](crate#recordings-that-survive-a-power-failure), always. A fact chunk stays as it is. A file
     /// that lacks samples which its header counts is an `IoError`, if a `seek` to its end succeeds.
     pub fn new_append(mut writer: W) -> Result<WavWriter<W>> {
         let head = read_until_data(&mut Input(&mut writer)).map_err(error_of)?;
@@ -180,7 +180,7 @@ impl WavWriter<io::BufWriter<fs::File>> {
         WavWriter::after(Target::Plain(Output::new(unbuffered(file), None, Some(true))), head, Some(length))
     }
 
-    /// Creates a file that [survives a loss of power](crate#recordings-that-survive-a-loss-of-power) (own): when this
+    /// Creates a file that [survives a power failure](crate#recordings-that-survive-a-power-failure) (own): when this
     /// returns, it and its name are on the disk, and after a `flush` all samples. The writer locks it.
     pub fn create_durable<P: AsRef<path::Path>>(filename: P, spec: WavSpec) -> Result<Self> {
         let (filename, spec_ex) = (filename.as_ref(), WavSpecEx::from(spec));
@@ -212,8 +212,8 @@ impl WavWriter<io::BufWriter<fs::File>> {
     }
 }
 
-// The buffer is the one of the proved writer: what that takes for written is with the system, so that what a full disk
-// has no room for isn't buffered here, and written later.
+// The buffer is the one of the proved writer: what that takes for written is with the system, so that what doesn't
+// fit on a full disk isn't buffered here, and written later.
 fn unbuffered(file: fs::File) -> io::BufWriter<fs::File> {
     io::BufWriter::with_capacity(0, file)
 }
