@@ -65,8 +65,9 @@ fn is_locked_by_another(file: &fs::File) -> bool {
     const EXCLUSIVE_WITHOUT_WAITING: u32 = 3;
     const IS_LOCKED: i32 = 33;
     let mut place = [0; 4];
-    place[std::mem::size_of::<usize>() / 4] = 1 << 62; // After two words, and before another one.
-                                                       // SAFETY: the file is open, and without waiting nothing of the call is kept.
+    // The offset comes after two words, and before another one.
+    place[std::mem::size_of::<usize>() / 4] = 1 << 62;
+    // SAFETY: the file is open, and without waiting nothing of the call is kept.
     let result = unsafe { LockFileEx(file.as_raw_handle(), EXCLUSIVE_WITHOUT_WAITING, 0, 1, 0, &mut place) };
     result == 0 && io::Error::last_os_error().raw_os_error() == Some(IS_LOCKED)
 }
