@@ -395,7 +395,6 @@ class Specs(Folder):
             (self.path, lambda: hound.append(self.path, [1])),
             (self.path, lambda: hound.append_to(self.path)),
             (self.path, lambda: hound.read(self.path, dtype="int8")),
-            (self.path, lambda: hound.write(self.path, [40000], 8000)),
             (torn, lambda: hound.read(torn, 7)),
             (__file__, lambda: hound.info(__file__)),
             (__file__, lambda: hound.open(__file__)),
@@ -408,6 +407,9 @@ class Specs(Folder):
             error = caught.exception
             self.assertEqual(error.filename, name)
             self.assertTrue(str(error).startswith(f"{name}: {error.cause.sentence}"), error)
+        with self.assertRaises(hound.HoundError) as caught:
+            hound.write(self.path, [40000], 8000)
+        self.assertEqual(str(caught.exception), f"{self.path}: a value doesn't fit in 16 bits: bits=24 holds more")
         with hound.create(self.path, 8000, 1, 8) as writer, self.assertRaises(hound.HoundError) as caught:
             writer.write([300])
         self.assertEqual(caught.exception.filename, self.path)
