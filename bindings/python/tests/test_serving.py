@@ -71,6 +71,8 @@ class Serving(unittest.TestCase):
         return subprocess.Popen(words, env=environment, stdout=subprocess.PIPE, stderr=subprocess.PIPE)
 
     def test_the_command(self):
+        # nohup and & ignore this signal, and what ignores it hands that on.
+        self.addCleanup(signal.signal, signal.SIGINT, signal.signal(signal.SIGINT, signal.default_int_handler))
         with socket.socket() as free:
             free.bind(("127.0.0.1", 0))
             port = free.getsockname()[1]
