@@ -20,6 +20,7 @@ import concurrent.futures
 import os
 import re
 import shutil
+import signal
 import subprocess
 import sys
 import tempfile
@@ -107,15 +108,22 @@ class Reader:
         self.has_pip = self.has_numpy = False
 
     def run(self, command, folder, paths=(), given=None):
-        """What a command prints; where it fails the error has all that it wrote."""
+        """What a command prints; where it fails the error has all that it wrote. One that takes too long is ended with
+        all that it has started, because these keep its output open."""
         env = {**self.env, "PATH": os.pathsep.join([*paths, self.env["PATH"]])}
-        ran = subprocess.run(
-            self.without_network + command, cwd=folder, env=env, stdin=given or subprocess.DEVNULL, timeout=SECONDS,
-            stdout=subprocess.PIPE, stderr=subprocess.PIPE, text=True, errors="replace",
+        running = subprocess.Popen(
+            self.without_network + command, cwd=folder, env=env, stdin=given or subprocess.DEVNULL,
+            stdout=subprocess.PIPE, stderr=subprocess.PIPE, text=True, errors="replace", start_new_session=True,
         )  # fmt: skip
-        if ran.returncode:
-            raise RuntimeError(f"{command[0]} ended with {ran.returncode}\n{ran.stdout}{ran.stderr}")
-        return ran.stdout
+        try:
+            printed, said = running.communicate(timeout=SECONDS)
+        except subprocess.TimeoutExpired:
+            os.killpg(running.pid, signal.SIGKILL)
+            running.communicate()
+            raise
+        if running.returncode:
+            raise RuntimeError(f"{command[0]} ended with {running.returncode}\n{printed}{said}")
+        return printed
 
     def prepare(self, languages):
         """Makes the clone, and installs what programs of these languages need."""
