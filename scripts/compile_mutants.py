@@ -17,24 +17,11 @@ import subprocess
 import sys
 import tempfile
 
-from edits import TOP, crates, edits_of
+from edits import TOP, can_be_made_with, crates, edits_of, texts_with
 
 PROGRAM = "use std::rt::HostRuntime;\n\nfn main(_rt: HostRuntime) {\n    not_there();\n}\n"
 WANTED = r"src/main\.rt:4:5: error\[unknown-name\]: cannot find value `not_there` in this scope\n"
 END = "run=none proved=no\n"
-
-
-def texts_with(edits):
-    """The texts of the files once all of these edits are made; none where one of them can't be made after the others."""
-    texts = {}
-    for edit in edits:
-        text = texts.get((edit.crate, edit.file), edit.text)
-        for old, new in edit.pairs:
-            if text.count(old) != 1:
-                return None
-            text = text.replace(old, new)
-        texts[edit.crate, edit.file] = text
-    return texts
 
 
 def rounds(edits):
@@ -42,8 +29,7 @@ def rounds(edits):
     found = []
     for one in edits:
         for at_once in found:
-            beside = [other for other in at_once if (other.crate, other.file) == (one.crate, one.file)]
-            if texts_with([*beside, one]) and texts_with([one, *beside]):
+            if can_be_made_with(one, at_once):
                 break
         else:
             at_once = []

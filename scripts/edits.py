@@ -112,3 +112,22 @@ def edit_of(crate, lines):
     last = pairs[-1][0]
     function = words.get("function") or function_at(text, text.find(last) + len(last), words["file"])
     return Edit(crate, kind, words[kind], words["file"], text, pairs, function, "long" in words)
+
+
+def texts_with(edits):
+    """The texts of the files once all of these edits are made; none where one of them can't be made after the others."""
+    texts = {}
+    for edit in edits:
+        text = texts.get((edit.crate, edit.file), edit.text)
+        for old, new in edit.pairs:
+            if text.count(old) != 1:
+                return None
+            text = text.replace(old, new)
+        texts[edit.crate, edit.file] = text
+    return texts
+
+
+def can_be_made_with(edit, others):
+    """Whether an edit can be made with these, before and after them."""
+    others = [other for other in others if (other.crate, other.file) == (edit.crate, edit.file)]
+    return bool(texts_with([*others, edit]) and texts_with([edit, *others]))

@@ -27,7 +27,7 @@ import sys
 import tempfile
 import time
 
-from edits import TOP, crates, edits_of
+from edits import TOP, can_be_made_with, crates, edits_of
 
 KIT = os.path.dirname(
     os.path.dirname(os.path.realpath(shutil.which("rt") or sys.exit("mutants: the Rattle kit isn't here")))
@@ -124,13 +124,23 @@ def tried(edits, called, kept):
     return {edit: verdicts[edit.function] for edit in edits}
 
 
+def made_at_once(edits):
+    """Some of these edits, each of another function, which can be made at once."""
+    found = []
+    for edit in edits:
+        is_alone = all(edit.function != other.function for other in found)
+        if is_alone and can_be_made_with(edit, found):
+            found.append(edit)
+    return found
+
+
 def judged(edits, called, work, jobs):
     """What the prover says of the function of each of these edits, as many of which are made at once as it can judge:
     pairs, as it says them."""
     left = list(edits)
     with concurrent.futures.ThreadPoolExecutor(jobs) as pool:
         while left:
-            at_once = list({edit.function: edit for edit in left}.values())
+            at_once = made_at_once(left)
             parts = [part for part in (at_once[start::jobs] for start in range(jobs)) if part]
             kept = [os.path.join(work, str(number)) for number in range(len(parts))]
             for part, found in zip(parts, pool.map(lambda part, kept: tried(part, called, kept), parts, kept)):
