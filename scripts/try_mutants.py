@@ -102,7 +102,8 @@ def says(called, functions, folder, kept):
     )
     verdicts = {}
     for function in functions:
-        found = set(re.findall(rf"^fn [\w:]*\b{function}: ({'|'.join(VERDICTS)})", run.stdout, flags=re.M))
+        said = rf"^fn (?:[\w:+]*:)?{re.escape(function)}: ({'|'.join(VERDICTS)})"
+        found = set(re.findall(said, run.stdout, flags=re.M))
         verdicts[function] = VERDICTS[found.pop()] if len(found) == 1 else None
     if None in verdicts.values() or not re.search(r"^only=\d+ proved=\d+$", run.stdout, flags=re.M):
         return dict.fromkeys(functions, f"status {run.returncode}\n{run.stdout[-2000:]}")
