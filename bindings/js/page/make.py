@@ -78,8 +78,10 @@ def made():
 
 
 def check_syntax(name, page):
-    """Ends the program where a script of the page isn't JavaScript."""
-    for script in re.findall(r"<script[^>]*>(.*?)</script>", page, flags=re.S):
+    """Ends the program where a script of the page isn't JavaScript, or where two of its scripts have a name in common
+    that means something else: then all of them as one text aren't."""
+    scripts = re.findall(r"<script[^>]*>(.*?)</script>", page, flags=re.S)
+    for script in [*scripts, "\n".join(scripts)]:
         with tempfile.TemporaryDirectory() as folder:
             path = os.path.join(folder, "page.mjs")
             with open(path, "w", encoding="utf-8") as file:

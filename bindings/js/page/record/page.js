@@ -48,8 +48,8 @@ function say(text, kind = "") {
   element("said").className = kind;
 }
 
-// What is said of an error by its name.
-const ERRORS = {
+// What is said of an error of the browser, by its name.
+const REASONS = {
   NotAllowedError: "This page may not use the microphone: allow it in the browser's settings for this page.",
   NotFoundError: "There is no microphone.",
   OverconstrainedError: "This microphone isn't there any more: choose another one.",
@@ -57,7 +57,7 @@ const ERRORS = {
   NotSupportedError: "This browser can't record at this rate: choose another one.",
   QuotaExceededError: "There is no space for a recording: free some.",
 };
-const sentenceOn = ({ name, message }) => ERRORS[name] ?? message;
+const reasonOf = ({ name, message }) => REASONS[name] ?? message;
 
 /** Shows how far the recording is. */
 function showState({ frames, counted, missing, fault, peak, isLoud }) {
@@ -137,7 +137,7 @@ async function connect(stream, channels, context) {
 }
 
 /** Begins to record. What was begun of it ends again where something fails. */
-async function start() {
+async function begin() {
   say("Allow the microphone where the browser asks.");
   element("notes").replaceChildren();
   show("starting");
@@ -215,7 +215,7 @@ async function ended({ frames, lost }) {
   clear();
   if (lost > 0) say(`${clock(frames / sampleRate)} are stored. ${(lost / sampleRate).toFixed(1)} s are lost.`, "bad");
   else if (frames === 0) say("Nothing was recorded.");
-  await showList().catch((error) => say(sentenceOn(error), "bad"));
+  await showList().catch((error) => say(reasonOf(error), "bad"));
   show("ready");
   tabs.postMessage("changed");
 }
@@ -257,7 +257,7 @@ const formatText = ({ sampleRate, channels, bitsPerSample, isFloat }) =>
 function button(text, title, act, kind = "second") {
   const made = Object.assign(document.createElement("button"), { type: "button", textContent: text, className: kind });
   made.setAttribute("aria-label", `${text} the recording of ${title}`);
-  made.onclick = () => act().catch((error) => say(sentenceOn(error), "bad"));
+  made.onclick = () => act().catch((error) => say(reasonOf(error), "bad"));
   return made;
 }
 
@@ -269,7 +269,7 @@ function rowOf(one) {
   facts.textContent = texts.join(" \u00b7 ");
   facts.className = one.wasCutOff ? "cut" : "soft";
   if (one.frames) buttons.append(button("Play", title, () => play(one, row)), button("Save", title, () => save(one)));
-  if (!one.isRecorded) buttons.append(button("Delete", title, () => remove(one), "second danger"));
+  if (!one.isRecorded) buttons.append(button("Delete", title, () => removeOne(one), "second danger"));
   row.append(name, facts, buttons);
   return row;
 }
@@ -299,7 +299,7 @@ async function save({ name }) {
   setTimeout(() => URL.revokeObjectURL(href), 60000);
 }
 
-async function remove(one) {
+async function removeOne(one) {
   element("question").textContent = `Delete the recording of ${titleOf(one)} (${lengthOf(one)})? Unless you saved it, it is nowhere else.`;
   dialog.returnValue = "";
   dialog.showModal();
@@ -342,13 +342,13 @@ const SERVE = "To record, this page has to be served: run npx hound_bindings ser
   "address it prints.";
 
 async function main() {
-  for (const [control, act] of [[recordButton, start], [stopButton, stop], [giveUpButton, () => ask("giveUp")],
+  for (const [control, act] of [[recordButton, begin], [stopButton, stop], [giveUpButton, () => ask("giveUp")],
     [pauseButton, () => proceed(session.phase === "paused" ? "recording" : "paused")]]) {
     control.onclick = async () => {
       try {
         await act();
       } catch (error) {
-        say(sentenceOn(error), "bad");
+        say(reasonOf(error), "bad");
         if (!session) show("ready");
       }
     };
